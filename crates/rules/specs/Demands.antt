@@ -1,0 +1,159 @@
+-- Demands 1, 2 and 3, as claims about the rules.
+use mathlib.Core.Path.{_≡_}
+use mathlib.Core.Logic.{_↔_, _≢_}
+use mathlib.Core.Bool.{Bool, true, false}
+use mathlib.Core.List.{List, [], _∷_, map, List·Memᴰ}
+use mathlib.Core.Option.{Option, none, some}
+use Prim.Native.Nat.{ℕ, _+_, _≤_, _<_}
+use lib.ListN.{length, getD}
+use Rattle.rules.specs.declared.Holder.the-variants.{MessageOn}
+use Rattle.rules.specs.declared.Row.{Row}
+use Rattle.rules.specs.declared.Message.{Message}
+use Rattle.rules.specs.declared.Job.{Job}
+use Rattle.rules.specs.declared.Setup.{Setup}
+use Rattle.rules.specs.declared.Answer.{Answer}
+use Rattle.rules.specs.Sequences.{keep, count-of, numbers}
+use Rattle.rules.specs.Words.{Within, resource, span, largest-number, row-limit, tasks-of, messages-of, task-of, run-time}
+use Rattle.rules.specs.Words.{State, View, view, fresh, of-job}
+use Rattle.rules.specs.Placing.{books-task, books-message, no-row, task-row, message-row, machine-for, placed, crosses, arrival, transfer, booked}
+use Rattle.rules.specs.Withdrawing.{admit}
+use Rattle.rules.specs.Refusals.{Test, submit-tests, withdraw-tests, clock-tests, submit-answer, withdraw-answer, clock-answer, placing, look, seen-number}
+use Rattle.rules.specs.Refusals.{outside, miscounted, out-of-range, bad-messages, accepted, Call, submits, withdraws, moves, step, answers, after, struck}
+use Rattle.rules.specs.Journal.{Entry, Journal, empty, rows-in, journal-total, journal-step}
+use Rattle.rules.specs.Laws.{IsTask}
+
+-- Demand 1: each call ends, and refuses by its number, leaving all untouched.
+
+-- the test numbered n refuses, and none before it does
+pub data FirstRefusal (n : ℕ) : List Test → Type 0 where
+  here : {test : Test} {tests : List Test} {task : ℕ} → test .number ≡ n → test .refuses ≡ some task → FirstRefusal n (test ∷ tests)
+  later : {test : Test} {tests : List Test} → test .refuses ≡ none → FirstRefusal n tests → FirstRefusal n (test ∷ tests)
+
+pub data NoRefusal : List Test → Type 0 where
+  end : NoRefusal []
+  passes : {test : Test} {tests : List Test} → test .refuses ≡ none → NoRefusal tests → NoRefusal (test ∷ tests)
+
+-- the number answered is n exactly when test n is the first that refuses, and 0 exactly when none does
+pub record AnsweredBy (tests : List Test) (a : Answer) : Type 0 where
+  pub refused : (n : ℕ) → n ≢ 0 → (a .number ≡ n) ↔ FirstRefusal n tests
+  pub passed : (a .number ≡ 0) ↔ NoRefusal tests
+
+abbrev pub tests-for : Setup → View → Call → List Test
+tests-for s v (submits j) = submit-tests s v j
+tests-for s v (withdraws n) = withdraw-tests v n
+tests-for s v (moves tick) = clock-tests v tick
+
+abbrev pub numbers-for : Call → List ℕ
+numbers-for (submits j) = numbers 1 8
+numbers-for (withdraws n) = numbers 9 2
+numbers-for (moves tick) = numbers 11 2
+
+pub record Demand1 (s : Setup) (st : State) (c : Call) : Type 0 where
+  pub numbered : map (λ test. test .number) (tests-for s (view st) c) ≡ numbers-for c
+  pub answered : AnsweredBy (tests-for s (view st) c) (step s st c .answer)
+  pub untouched : step s st c .answer .number ≢ 0 → step s st c .left ≡ st
+
+-- a look answers 13 exactly for a machine that the table does not have, and else 0
+pub record Demand1-look (s : Setup) (v : View) (m tick : ℕ) : Type 0 where
+  pub refused : (seen-number (look s v m tick) ≡ 13) ↔ ((1 ≤ m) × (m ≤ s .table .machines) → ⊥)
+  pub passed : (seen-number (look s v m tick) ≡ 0) ↔ ((1 ≤ m) × (m ≤ s .table .machines))
+
+-- Demand 2: a job is admitted exactly when DRCD places it, with DRCD's rows.
+
+-- a job that none of 1 to 4 refuses
+pub record InRange (s : Setup) (j : Job) : Type 0 where
+  pub number : outside 1 largest-number (j .number) ≡ false
+  pub counts : miscounted j ≡ false
+  pub figures : out-of-range s j ≡ false
+  pub messages : bad-messages j ≡ false
+
+-- placing finds every task a good trial, with these rows
+pub record Places (s : Setup) (v : View) (j : Job) (rows : List Row) : Type 0 where
+  pub rows-found : placing s v j ≡ booked rows
+  pub every-task : (t : ℕ) → IsTask j t → placed rows t ≡ true
+
+pub record Demand2 (s : Setup) (st : State) (j : Job) : Type 0 where
+  pub admitted :
+      (step s st (submits j) .answer .number ≡ 0)
+      ↔ ((rows : List Row) × Places s (view st) j rows × (length (st .rows) + length rows ≤ row-limit))
+  pub with-its-rows : (rows : List Row) → Places s (view st) j rows → length (st .rows) + length rows ≤ row-limit → step s st (submits j) .left ≡ admit st rows
+
+-- Demand 3: one claim about every list of calls.
+
+abbrev pub row-at : List Row → ℕ → Row
+row-at rows i = getD rows i no-row
+
+-- no two rows, by position, on one machine or one link share a tick
+abbrev pub NoSharedTick : List Row → Type 0
+NoSharedTick rows =
+    (i k : ℕ) → i < k → k < length rows → resource (row-at rows i) ≡ resource (row-at rows k) →
+    (tick : ℕ) → Within tick (span (row-at rows i)) → Within tick (span (row-at rows k)) → ⊥
+
+-- the rows of a held job
+abbrev pub rows-for : List Row → Job → List Row
+rows-for rows j = keep (of-job (j .number)) rows
+
+module _ (s : Setup) (j : Job) (mine : List Row) where
+  -- a task has exactly one row, of its run time on the row's machine, which can run it, and ends by its deadline
+  pub record TaskDue (t : ℕ) : Type 0 where
+    pub once : count-of (books-task t) mine ≡ 1
+    pub able : 0 < run-time j t (machine-for mine t)
+    pub due : task-row mine t .finish ≡ task-row mine t .start + run-time j t (machine-for mine t)
+    pub in-time : task-row mine t .finish ≤ task-of j t .deadline
+
+  -- a message with volume whose two tasks are on different machines
+  abbrev pub between : Message → Bool
+  between msg = crosses msg (machine-for mine (msg .sender)) (machine-for mine (msg .receiver))
+
+  -- such a message has exactly one row, on its link, of link time times volume, not before its sender's finish; any other has none
+  pub record MessageDue (msg : Message) : Type 0 where
+    pub once : between msg ≡ true → count-of (books-message msg) mine ≡ 1
+    pub absent : between msg ≡ false → count-of (books-message msg) mine ≡ 0
+    pub its-link :
+        between msg ≡ true →
+        message-row mine msg .holder
+        ≡ MessageOn (machine-for mine (msg .sender)) (machine-for mine (msg .receiver)) (msg .sender) (msg .receiver)
+    pub due :
+        between msg ≡ true →
+        message-row mine msg .finish
+        ≡ message-row mine msg .start + transfer s msg (machine-for mine (msg .sender)) (machine-for mine (msg .receiver))
+    pub after-sender : between msg ≡ true → task-row mine (msg .sender) .finish ≤ message-row mine msg .start
+    -- its receiver does not begin before it has arrived
+    pub arrived : arrival mine msg (machine-for mine (msg .receiver)) ≤ task-row mine (msg .receiver) .start
+
+  -- a row of one of the job's tasks, or of one of its messages that has one
+  pub data Owed (row : Row) : Type 0 where
+    to-task : (t : ℕ) → IsTask j t → books-task t row ≡ true → Owed row
+    to-message : (msg : Message) → List·Memᴰ msg (messages-of j) → between msg ≡ true → books-message msg row ≡ true → Owed row
+
+module _ (s : Setup) (calls : List Call) where
+  abbrev pub register-left : State
+  register-left = after (step s) fresh calls
+
+  abbrev pub journal-left : Journal
+  journal-left = after (journal-step s) empty calls
+
+  abbrev pub held-entry : Entry → Type 0
+  held-entry e = List·Memᴰ e (journal-left .entries)
+
+  abbrev pub struck-calls : List Call
+  struck-calls = struck (step s) fresh calls
+
+  pub record Demand3 : Type 0 where
+    -- every answer, the clock, the rows in their order and the total are the journal's
+    pub answers-agree : answers (step s) fresh calls ≡ answers (journal-step s) empty calls
+    pub clock-agrees : register-left .clock ≡ journal-left .clock
+    pub rows-agree : register-left .rows ≡ rows-in (journal-left .entries)
+    pub total-agrees : register-left .total ≡ journal-total journal-left
+    pub apart : NoSharedTick (register-left .rows)
+    -- each held job has exactly the rows that are due
+    pub tasks-due : (e : Entry) → held-entry e → (t : ℕ) → IsTask (e .job) t → TaskDue s (e .job) (rows-for (register-left .rows) (e .job)) t
+    pub messages-due :
+        (e : Entry) → held-entry e → (msg : Message) → List·Memᴰ msg (messages-of (e .job)) →
+        MessageDue s (e .job) (rows-for (register-left .rows) (e .job)) msg
+    pub no-others :
+        (row : Row) → List·Memᴰ row (register-left .rows) →
+        (e : Entry) × held-entry e × (row .job ≡ e .job .number) × Owed s (e .job) (rows-for (register-left .rows) (e .job)) row
+    -- the list struck of its refused calls leaves an equal register and gives the same answers to the other calls
+    pub struck-state : after (step s) fresh struck-calls ≡ register-left
+    pub struck-answers : answers (step s) fresh struck-calls ≡ keep (λ a. accepted a) (answers (step s) fresh calls)

@@ -1,0 +1,61 @@
+// The machine tables: the default one, and what code reads of one.
+use crate::MACHINES;
+use crate::PAIRS;
+use crate::Setup;
+use crate::Table;
+ghost use mathlib.Core.Path.{_≡_};
+ghost use lib.ListN.{getD};
+ghost use Rattle.rules.specs.Words.{default-setup, rate, link-time, link-rate, link-place, HasMachine, HasLink};
+
+// The tables that document 01 gives.
+pub fn default_setup() -> Setup
+    ensures { λ r. ⌜ r ≡ default-setup ⌝ }
+{
+    Setup {
+        table: Table {
+            machines: 4,
+            rates: [10, 4, 10, 25],
+            times: [0, 2, 3, 1, 2, 0, 1, 4, 3, 1, 0, 2, 1, 4, 2, 0],
+            fails: [0, 5, 8, 6, 5, 0, 7, 9, 8, 7, 0, 5, 6, 9, 5, 0],
+        },
+    }
+}
+
+// The failure rate of a machine.
+pub fn machine_rate(s: Setup, machine: u64) -> u64
+    requires { ⌜ HasMachine machine ⌝ }
+    ensures { λ r. ⌜ r ≡ rate s machine ⌝ }
+{
+    let at = (machine - 1) as usize;
+    let t = s.table;
+    t.rates[at]
+}
+
+// The figure of link a to b in a column of the table, which stands row by row, a row for each sending machine.
+fn link_figure(column: [u64; PAIRS], a: u64, b: u64) -> u64
+    requires { ⌜ HasLink a b ⌝ }
+    ensures { λ r. ⌜ r ≡ getD column (link-place a b) 0 ⌝ }
+{
+    let at = ((a - 1) as usize) * MACHINES + ((b - 1) as usize);
+    column[at]
+}
+
+// The time of link a to b per unit of volume.
+pub fn transfer_time(s: Setup, a: u64, b: u64) -> u64
+    requires { ⌜ HasLink a b ⌝ }
+    ensures { λ r. ⌜ r ≡ link-time s a b ⌝ }
+{
+    let t = s.table;
+    let times = t.times;
+    link_figure(times, a, b)
+}
+
+// The failure rate of link a to b.
+pub fn transfer_rate(s: Setup, a: u64, b: u64) -> u64
+    requires { ⌜ HasLink a b ⌝ }
+    ensures { λ r. ⌜ r ≡ link-rate s a b ⌝ }
+{
+    let t = s.table;
+    let fails = t.fails;
+    link_figure(fails, a, b)
+}

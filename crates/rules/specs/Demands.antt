@@ -13,7 +13,7 @@ use Rattle.rules.specs.declared.Job.{Job}
 use Rattle.rules.specs.declared.Setup.{Setup}
 use Rattle.rules.specs.declared.Answer.{Answer}
 use Rattle.rules.specs.Sequences.{keep, count-of, numbers}
-use Rattle.rules.specs.Words.{Within, resource, span, largest-number, row-limit, tasks-of, messages-of, task-of, run-time}
+use Rattle.rules.specs.Words.{Within, resource, span, largest-number, row-limit, messages-of, task-of, run-time}
 use Rattle.rules.specs.Words.{State, View, view, fresh, of-job}
 use Rattle.rules.specs.Placing.{books-task, books-message, no-row, task-row, message-row, machine-for, placed, crosses, arrival, transfer, booked}
 use Rattle.rules.specs.Withdrawing.{admit}

@@ -8,7 +8,7 @@ use Rattle.rules.specs.declared.Job.{Job}
 use Rattle.rules.specs.declared.Message.{Message}
 use Rattle.rules.specs.declared.Row.{Row}
 use Rattle.rules.specs.declared.Setup.{Setup}
-use Rattle.rules.specs.Words.{Span, Within, tasks-of, messages-of, task-of, run-time}
+use Rattle.rules.specs.Words.{Span, Within, messages-of, task-of, run-time}
 use Rattle.rules.specs.Placing.{ready, try, trial-rows, costs}
 
 -- a tick is taken if some span holds it
@@ -28,7 +28,7 @@ pub record IsLeast (from len : ℕ) (spans : List Span) (tick : ℕ) : Type 0 wh
 -- a task of the job, by its number
 pub record IsTask (j : Job) (t : ℕ) : Type 0 where
   pub first : 1 ≤ t
-  pub last : t ≤ length (tasks-of j)
+  pub last : t ≤ j .taskcount
 
 -- the task placed next: among those whose senders are all placed, the earliest deadline, then the lowest number
 pub record IsNext (j : Job) (new : List Row) (t : ℕ) : Type 0 where

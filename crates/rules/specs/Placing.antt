@@ -205,4 +205,4 @@ module _ (s : Setup) (clock : ℕ) (held : List Row) (j : Job) where
 
   -- one turn for each task
   unfoldable pub place : Placing
-  place = place-from (length (task-numbers j)) []
+  place = place-from (j .taskcount) []

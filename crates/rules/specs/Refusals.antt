@@ -15,7 +15,7 @@ use Rattle.rules.specs.declared.Seen.{Seen}
 use Rattle.rules.specs.declared.Seen.the-variants.{Idle, Booked, NoMachine}
 use Rattle.rules.specs.Sequences.{any-of, all-of, keep, cons-if, precedes, foremost}
 use Rattle.rules.specs.Words.{largest-number, most-tasks, most-messages, largest-time, largest-volume, horizon, row-limit}
-use Rattle.rules.specs.Words.{machine, same, resource, machines, tasks-of, messages-of, task-numbers, task-of, run-time, State, View, view, of-job}
+use Rattle.rules.specs.Words.{machine, same, resource, machines, messages-of, task-numbers, task-of, run-time, State, View, view, of-job}
 use Rattle.rules.specs.Placing.{Placing, booked, late, place, costs}
 use Rattle.rules.specs.Withdrawing.{admit, withdraw, advance}
 
@@ -60,8 +60,8 @@ out-of-range s j = ltb largest-time (j .scheduling) || any-of (task-out-of-range
 -- 4: a message that breaks the range or order, or whose sender or receiver is no task of the job
 unfoldable pub message-out-of-range : Job → Message → Bool
 message-out-of-range j msg =
-    outside 1 (length (tasks-of j)) (msg .sender)
-    || (outside 1 (length (tasks-of j)) (msg .receiver)
+    outside 1 (j .taskcount) (msg .sender)
+    || (outside 1 (j .taskcount) (msg .receiver)
     || (not (ltb (msg .sender) (msg .receiver)) || ltb largest-volume (msg .volume)))
 
 -- messages stand by receiver, then sender

@@ -124,20 +124,17 @@ default-setup = record {
 
 -- A job. Array entries past the counts are no part of it. Tasks are numbered from 1.
 
-abbrev pub tasks-of : Job → List Task
-tasks-of j = take (j .taskcount) (j .tasks)
-
 abbrev pub messages-of : Job → List Message
 messages-of j = take (j .messagecount) (j .messages)
 
 abbrev pub task-numbers : Job → List ℕ
-task-numbers j = numbers 1 (length (tasks-of j))
+task-numbers j = numbers 1 (j .taskcount)
 
 abbrev pub no-task : Task
 no-task = record { deadline = 0; dispatch = 0; runs = [] }
 
 abbrev pub task-of : Job → ℕ → Task
-task-of j t = getD (tasks-of j) (t - 1) no-task
+task-of j t = getD (j .tasks) (t - 1) no-task
 
 -- 0 says that the machine cannot run it
 abbrev pub run-time : Job → ℕ → ℕ → ℕ

@@ -6,4 +6,7 @@ pub mod LeastTick
 pub mod Turns
 pub mod Inputs
 pub mod Due
+pub mod Order
+pub mod Differ
+pub mod Demand1
 pub mod Ledger

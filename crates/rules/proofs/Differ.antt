@@ -1,0 +1,26 @@
+-- No two messages of a job in range have the same sender and the same receiver.
+use mathlib.Core.Path.{_≡_}
+use mathlib.Core.Bool.{true}
+use Rattle.rules.specs.declared.Message.{Message}
+use Rattle.rules.specs.declared.Job.{Job}
+use Rattle.rules.specs.declared.Setup.{Setup}
+use Rattle.rules.specs.Sequences.{precedes}
+use Rattle.rules.specs.Words.{messages-of}
+use Rattle.rules.specs.Refusals.{listing}
+use Rattle.rules.specs.Demands.{InRange}
+use Rattle.rules.proofs.Sequences.{clash}
+use Rattle.rules.proofs.Pairs.{Pairwise, at-pairwise}
+use Rattle.rules.proofs.Choice.{precedes-irrefl}
+use Rattle.rules.proofs.Order.{distinct-listed}
+use Rattle.rules.proofs.Inputs.{SamePair, Differ}
+
+precedes-differ : (x y : Message) → precedes (listing x) (listing y) ≡ true → Differ x y
+precedes-differ x y e same =
+    let alike : precedes (listing y) (listing y) ≡ true = rw (same .sender, same .receiver) at e in
+    clash alike (precedes-irrefl (listing y))
+
+pub in-range-differ : (s : Setup) (j : Job) → InRange s j → Pairwise Differ (messages-of j)
+in-range-differ s j range = at-pairwise Differ (messages-of j) blank (λ i k h b. precedes-differ _ _ (distinct-listed s j range blank i k h b))
+  where
+    blank : Message
+    blank = record { sender = 0; receiver = 0; volume = 0 }

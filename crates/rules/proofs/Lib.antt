@@ -9,4 +9,5 @@ pub mod Due
 pub mod Order
 pub mod Differ
 pub mod Demand1
+pub mod DefaultTables
 pub mod Ledger

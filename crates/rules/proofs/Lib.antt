@@ -9,5 +9,6 @@ pub mod Due
 pub mod Order
 pub mod Differ
 pub mod Demand1
+pub mod Admitted
 pub mod DefaultTables
 pub mod Ledger

@@ -180,6 +180,18 @@ module _ {A : Type 0} where
       (λ h. rw h (List·Memᴰ·head refl))
       (λ h. let below : any-of p xs ≡ true = rw h at e in rw h (List·Memᴰ·tail (first-mem d p xs below)))
 
+  -- the only one that passes a test is the first that does
+  pub once-first : (d : A) (p : A → Bool) {l : List A} {x : A} → count-of p l ≡ 1 → List·Memᴰ x l → p x ≡ true → first-or d p l ≡ x
+  once-first d p {x = x} c (List·Memᴰ·head e) h = rw (ap p (sym e) ∙ h) (sym e)
+  once-first d p {x = x} c (List·Memᴰ·tail {x = y} {xs = ys} m) h =
+      by-test
+      (p y)
+      (λ e.
+      let one : suc (count-of p ys) ≡ 1 = rw e at c in
+      let more = count-some p ys (any-mem p m h) in
+      absurd (omega arith))
+      (λ e. let one : count-of p ys ≡ 1 = rw e at c in rw e (once-first d p one m h))
+
   -- Sums.
 
   pub sum-append : (f : A → ℕ) (a b : List A) → sum-of f (a ++ b) ≡ sum-of f a + sum-of f b

@@ -1,48 +1,94 @@
--- What it says of a call that its answer's number is 0: none of its tests refuses.
-use mathlib.Core.Path.{_≡_, refl, sym, _∙_}
+-- What an accepted submission has shown: that none of the tests 1 to 8 refuses it, each said by itself.
+use mathlib.Core.Path.{_≡_, refl, sym, ap, _∙_}
 use mathlib.Core.Bool.{Bool, true, false}
-use mathlib.Core.Option.{none, Option·none-ne-some}
+use mathlib.Core.List.{List, _∷_}
+use mathlib.Core.Option.{Option, none, some}
 use Prim.Native.Nat.{ℕ, _+_, _≤_}
+use native.Mathlib.Omega.{arith}
 use lib.Dec.{ltb}
 use lib.ListN.{length}
-use borrow.Author.Tests.{ltb-false}
+use borrow.Author.Tests.{ltb-false, le-ltb}
+use Rattle.rules.specs.declared.Row.{Row}
 use Rattle.rules.specs.declared.Job.{Job}
 use Rattle.rules.specs.declared.Setup.{Setup}
-use Rattle.rules.specs.Words.{horizon, row-limit, State, view}
+use Rattle.rules.specs.Words.{View, row-limit, largest-number}
 use Rattle.rules.specs.Placing.{Placing, booked, late}
-use Rattle.rules.specs.Refusals.{refuse-if, missed, found, placing, submit-tests, clock-tests, submits, moves, step}
-use Rattle.rules.specs.Demands.{NoRefusal, end, passes, InRange}
-use Rattle.rules.proofs.Demand1.{demand-1}
+use Rattle.rules.specs.Refusals.{Test, refuse-if, outside, miscounted, out-of-range, bad-messages, first-infeasible, missed, found, placing, submit-tests, submit-answer}
+use Rattle.rules.specs.Demands.{NoRefusal, end, passes, AnsweredBy, InRange}
+use Rattle.rules.proofs.Sequences.{by-test}
+use Rattle.rules.proofs.Demand1.{submit-answered}
 
-not-refused : (b : Bool) → refuse-if b ≡ none → b ≡ false
-not-refused true e = absurd (Option·none-ne-some 0 (sym e))
-not-refused false e = refl
+pub record Admitted (s : Setup) (v : View) (j : Job) : Type 0 where
+  pub in-range : InRange s j
+  pub not-held : v .held (j .number) ≡ false
+  pub feasible : first-infeasible s (v .clock) j ≡ none
+  pub rows-found : placing s v j ≡ booked (found (placing s v j))
+  pub fits : length (v .rows) + length (found (placing s v j)) ≤ row-limit
+
+refuse-none : (b : Bool) → refuse-if b ≡ none → b ≡ false
+refuse-none true e = let z : _≡_ {A = ℕ} 0 1 = cc in absurd (omega arith)
+refuse-none false e = refl
 
 not-missed : (p : Placing) → missed p ≡ none → p ≡ booked (found p)
 unfolding missed found
 not-missed (booked rows) e = refl
-not-missed (late t) e = absurd (Option·none-ne-some t (sym e))
+not-missed (late t) e = let z : _≡_ {A = ℕ} 0 1 = cc in absurd (omega arith)
 
--- a job that is admitted
-pub record Admitted (s : Setup) (st : State) (j : Job) : Type 0 where
-  pub in-range : InRange s j
-  pub is-placed : placing s (view st) j ≡ booked (found (placing s (view st) j))
-  pub has-room : length (st .rows) + length (found (placing s (view st) j)) ≤ row-limit
+booked-not-missed : (p : Placing) → p ≡ booked (found p) → missed p ≡ none
+unfolding missed found
+booked-not-missed (booked rows) e = refl
+booked-not-missed (late t) e = let z : _≡_ {A = ℕ} 0 1 = cc in absurd (omega arith)
 
-pub admitted : (s : Setup) (st : State) (j : Job) → step s st (submits j) .answer .number ≡ 0 → Admitted s st j
-unfolding submit-tests
-admitted s st j e = from (demand-1 s st (submits j) .answered .passed .0 e)
-  where
-    from : NoRefusal (submit-tests s (view st) j) → Admitted s st j
-    from (passes a (passes b (passes c (passes d (passes e (passes f (passes g (passes h end)))))))) = record {
-      in-range = record { number = not-refused _ a; counts = not-refused _ b; figures = not-refused _ c; messages = not-refused _ d };
-      is-placed = not-missed _ g;
-      has-room = ltb-false _ _ (not-refused _ h);
-    }
+next : {test : Test} {tests : List Test} → NoRefusal (test ∷ tests) → (test .refuses ≡ none) × NoRefusal tests
+next (passes h rest) = (h, rest)
 
-pub moved-in-range : (s : Setup) (st : State) (tick : ℕ) → step s st (moves tick) .answer .number ≡ 0 → tick ≤ horizon
-unfolding clock-tests
-moved-in-range s st tick e = from (demand-1 s st (moves tick) .answered .passed .0 e)
-  where
-    from : NoRefusal (clock-tests (view st) tick) → tick ≤ horizon
-    from (passes a (passes b end)) = ltb-false _ _ (not-refused _ b)
+module _ (s : Setup) (v : View) (j : Job) where
+  pub admitted : submit-answer s v j .number ≡ 0 → Admitted s v j
+  unfolding submit-tests
+  admitted e =
+      let t1 = next (submit-answered s v j .passed .0 e) in
+      let t2 = next (t1 .1) in
+      let t3 = next (t2 .1) in
+      let t4 = next (t3 .1) in
+      let t5 = next (t4 .1) in
+      let t6 = next (t5 .1) in
+      let t7 = next (t6 .1) in
+      let t8 = next (t7 .1) in
+      record {
+        in-range = record {
+          number = refuse-none (outside 1 largest-number (j .number)) (t1 .0);
+          counts = refuse-none (miscounted j) (t2 .0);
+          figures = refuse-none (out-of-range s j) (t3 .0);
+          messages = refuse-none (bad-messages j) (t4 .0);
+        };
+        not-held = refuse-none (v .held (j .number)) (t5 .0);
+        feasible = t6 .0;
+        rows-found = not-missed (placing s v j) (t7 .0);
+        fits =
+            ltb-false
+            row-limit
+            (length (v .rows) + length (found (placing s v j)))
+            (refuse-none (ltb row-limit (length (v .rows) + length (found (placing s v j)))) (t8 .0));
+      }
+
+  pub admits : Admitted s v j → submit-answer s v j .number ≡ 0
+  unfolding submit-tests
+  admits a =
+      submit-answered s v j
+      .passed
+      .1
+      (passes
+      (ap refuse-if (a .in-range .number))
+      (passes
+      (ap refuse-if (a .in-range .counts))
+      (passes
+      (ap refuse-if (a .in-range .figures))
+      (passes
+      (ap refuse-if (a .in-range .messages))
+      (passes
+      (ap refuse-if (a .not-held))
+      (passes
+      (a .feasible)
+      (passes
+      (booked-not-missed (placing s v j) (a .rows-found))
+      (passes (ap refuse-if (le-ltb row-limit (length (v .rows) + length (found (placing s v j))) (a .fits))) end))))))))

@@ -9,6 +9,7 @@ use native.Mathlib.Omega.{arith}
 use lib.Dec.{eqb}
 use borrow.Author.Tests.{eqb-true, eq-eqb, ne-eqb}
 use Rattle.rules.specs.declared.Row.{Row}
+use Rattle.rules.specs.declared.Job.{Job}
 use Rattle.rules.specs.declared.Setup.{Setup}
 use Rattle.rules.specs.declared.Answer.{Answer}
 use Rattle.rules.specs.declared.Seen.the-variants.{NoMachine}
@@ -72,11 +73,15 @@ settled : {S : Type 0} (a : Answer) (old changed : S) → a .number ≢ 0 → se
 unfolding settle
 settled a old changed ne = rw (ne-eqb (a .number) 0 ne) refl
 
+pub submit-answered : (s : Setup) (v : View) (j : Job) → AnsweredBy (submit-tests s v j) (submit-answer s v j)
+unfolding submit-answer submit-tests
+submit-answered s v j = in-turn _ (submit-tests s v j) 1 8 refl (omega arith) refl
+
 pub demand-1 : (s : Setup) (st : State) (c : Call) → Demand1 s st c
 unfolding step settle submit-answer withdraw-answer clock-answer submit-tests withdraw-tests clock-tests
 demand-1 s st (submits j) = record {
   numbered = refl;
-  answered = in-turn _ (submit-tests s (view st) j) 1 8 refl (omega arith) refl;
+  answered = submit-answered s (view st) j;
   untouched = settled (submit-answer s (view st) j) st _;
 }
 demand-1 s st (withdraws n) = record {

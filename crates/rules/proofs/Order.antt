@@ -13,9 +13,9 @@ use Rattle.rules.specs.declared.Message.{Message}
 use Rattle.rules.specs.declared.Job.{Job}
 use Rattle.rules.specs.declared.Setup.{Setup}
 use Rattle.rules.specs.Sequences.{any-of, all-of, cons-if, keep, count-of, precedes}
-use Rattle.rules.specs.Words.{largest-volume, messages-of, task-numbers}
+use Rattle.rules.specs.Words.{largest-volume, most-tasks, most-messages, messages-of, task-numbers}
 use Rattle.rules.specs.Placing.{placed, into, ready}
-use Rattle.rules.specs.Refusals.{outside, message-out-of-range, listing, ascending, bad-messages}
+use Rattle.rules.specs.Refusals.{outside, miscounted, message-out-of-range, listing, ascending, bad-messages}
 use Rattle.rules.specs.Laws.{IsTask, Chain, one, on, Acyclic, EndsListed}
 use Rattle.rules.specs.Demands.{InRange}
 use Rattle.rules.proofs.Sequences.{by-test, clash, or-false, and-true, and-both, and-cases, any-mem, any-witness, any-none, mem-keep, count-some}
@@ -50,12 +50,17 @@ ascending-pairs (x ∷ l) e (suc i) (suc k) h b = ascending-pairs l (ascending-r
 
 -- The messages of a job in range.
 
-in-between : (low high n : ℕ) → outside low high n ≡ false → (low ≤ n) × (n ≤ high)
+pub in-between : (low high n : ℕ) → outside low high n ≡ false → (low ≤ n) × (n ≤ high)
 in-between low high n e =
     let both = or-false (ltb n low) (ltb high n) e in
     (ltb-false n low (both .0), ltb-false high n (both .1))
 
 module _ (s : Setup) (j : Job) (range : InRange s j) where
+  pub in-range-count : (1 ≤ j .taskcount) × (j .taskcount ≤ most-tasks)
+  unfolding miscounted
+  in-range-count =
+      in-between 1 most-tasks (j .taskcount) (or-false (outside 1 most-tasks (j .taskcount)) (ltb most-messages (j .messagecount)) (range .counts) .0)
+
   listed-order : (any-of (message-out-of-range j) (messages-of j) ≡ false) × (not (ascending (map listing (messages-of j))) ≡ false)
   unfolding bad-messages
   listed-order = or-false (any-of (message-out-of-range j) (messages-of j)) (not (ascending (map listing (messages-of j)))) (range .messages)

@@ -1,5 +1,6 @@
 -- One induction for all facts of placing: what holds of no rows and is kept at each turn holds of the whole job.
-use mathlib.Core.Path.{_≡_, refl, sym, subst}
+use mathlib.Core.Path.{_≡_, refl, sym, ap, _∙_, subst}
+use mathlib.Core.Logic.{_⊎_, inl, inr}
 use mathlib.Core.List.{List, [], _++_}
 use mathlib.Core.Option.{Option, none, some}
 use Prim.Native.Nat.{ℕ, zero, suc}
@@ -7,9 +8,7 @@ use native.Mathlib.Omega.{arith}
 use Rattle.rules.specs.declared.Row.{Row}
 use Rattle.rules.specs.declared.Job.{Job}
 use Rattle.rules.specs.declared.Setup.{Setup}
-use Rattle.rules.specs.Words.{View}
 use Rattle.rules.specs.Placing.{Trial, trial-rows, Turn, over, misses, books, Placing, booked, late, turn, place-from, place, next-task, choice, try}
-use Rattle.rules.specs.Refusals.{placing}
 use Rattle.rules.specs.Laws.{IsNext, IsKept}
 use Rattle.rules.proofs.Choice.{next-is-next, choice-kept}
 
@@ -20,55 +19,54 @@ late-booked {ℓ} : {C : Type ℓ} {t : ℕ} {rows : List Row} → late t ≡ bo
 late-booked e = let z : _≡_ {A = ℕ} 0 1 = cc in absurd (omega arith)
 
 module _ (s : Setup) (clock : ℕ) (held : List Row) (j : Job) where
-  -- a turn that books is the next task's, by the trial kept
-  pub turn-books :
-      (new : List Row) (t : ℕ) (trial : Trial) → turn s clock held j new ≡ books t trial →
-      (next-task j new ≡ some t) × (choice s clock held j new t ≡ some trial)
-  unfolding turn
-  turn-books new t trial e = go (next-task j new) refl e
+  -- what is kept of the turns left and the rows so far
+  module _
+      (P : ℕ → List Row → Type 0)
+      (kept :
+      (left : ℕ) (new : List Row) (t : ℕ) (trial : Trial) → next-task j new ≡ some t → choice s clock held j new t ≡ some trial →
+      P (suc left) new → P left (new ++ trial-rows trial))
     where
-      went : (u : ℕ) → Option Trial → Turn
-      went u o = elim o [ none ↦ misses u | some trial ↦ books u trial ]
+      -- at the end no turn is left, or no task is ready
+      abbrev pub Ends : List Row → Type 0
+      Ends rows = (left : ℕ) × P left rows × ((left ≡ 0) ⊎ (next-task j rows ≡ none))
 
-      chose :
-          (u : ℕ) (o : Option Trial) → choice s clock held j new u ≡ o → next-task j new ≡ some u → went u o ≡ books t trial →
-          (next-task j new ≡ some t) × (choice s clock held j new t ≡ some trial)
-      chose u none c n q = let z : _≡_ {A = ℕ} 0 1 = cc in absurd (omega arith)
-      chose u (some x) c n q = let same : u ≡ t = cc in let alike : x ≡ trial = cc in (rw (← same) n, rw (← same, ← alike) c)
+      place-from-ends : (turns : ℕ) (new rows : List Row) → P turns new → place-from s clock held j turns new ≡ booked rows → Ends rows
+      unfolding place-from turn
+      place-from-ends zero new rows h e = (zero, subst (P zero) (booked-same e) h, inl refl)
+      place-from-ends (suc k) new rows h e = go (next-task j new) refl e (λ next q. place-from-ends k next rows q)
+        where
+          Below : Type 0
+          Below = (next : List Row) → P k next → place-from s clock held j k next ≡ booked rows → Ends rows
 
-      go :
-          (o : Option ℕ) → next-task j new ≡ o → (elim o [ none ↦ over | some u ↦ went u (choice s clock held j new u) ]) ≡ books t trial →
-          (next-task j new ≡ some t) × (choice s clock held j new t ≡ some trial)
-      go none n q = let z : _≡_ {A = ℕ} 0 1 = cc in absurd (omega arith)
-      go (some u) n q = chose u (choice s clock held j new u) refl n q
+          went : Turn → Placing
+          went x = elim x [ over ↦ booked new | misses t ↦ late t | books t trial ↦ place-from s clock held j k (new ++ trial-rows trial) ]
 
+          chose :
+              (t : ℕ) (o : Option Trial) → next-task j new ≡ some t → choice s clock held j new t ≡ o →
+              went (elim o [ none ↦ misses t | some trial ↦ books t trial ]) ≡ booked rows → Below → Ends rows
+          chose t none n c q below = late-booked q
+          chose t (some trial) n c q below = below (new ++ trial-rows trial) (kept k new t trial n c h) q
+
+          go :
+              (o : Option ℕ) → next-task j new ≡ o →
+              went (elim o [ none ↦ over | some t ↦ elim (choice s clock held j new t) [ none ↦ misses t | some trial ↦ books t trial ] ]) ≡ booked rows →
+              Below → Ends rows
+          go none n q below = let same = booked-same q in (suc k, subst (P (suc k)) same h, inr (ap (next-task j) (sym same) ∙ n))
+          go (some t) n q below = chose t (choice s clock held j new t) n refl q below
+
+      pub place-ends : {rows : List Row} → P (j .taskcount) [] → place s clock held j ≡ booked rows → Ends rows
+      unfolding place
+      place-ends {rows} h e = place-from-ends (j .taskcount) [] rows h e
+
+  -- what is kept of the rows alone
   module _
       (P : List Row → Type 0)
       (kept :
       (new : List Row) (t m : ℕ) → IsNext j new t → IsKept s clock held j new t m → P new →
       P (new ++ trial-rows (try s clock held j new t m)))
     where
-      books-keep : (new : List Row) (t : ℕ) (trial : Trial) → turn s clock held j new ≡ books t trial → P new → P (new ++ trial-rows trial)
-      books-keep new t trial e h =
-          let b = turn-books new t trial e in
-          let k = choice-kept s clock held j new t trial (b .1) in
-          rw (k .1) (kept new t (k .0) (next-is-next j new t (b .0)) (k .2) h)
-
-      place-from-keeps : (k : ℕ) (new rows : List Row) → P new → place-from s clock held j k new ≡ booked rows → P rows
-      unfolding place-from
-      place-from-keeps zero new rows h e = subst P (booked-same e) h
-      place-from-keeps (suc k) new rows h e = go (turn s clock held j new) refl e (λ next q. place-from-keeps k next rows q)
-        where
-          went : Turn → Placing
-          went x = elim x [ over ↦ booked new | misses t ↦ late t | books t trial ↦ place-from s clock held j k (new ++ trial-rows trial) ]
-
-          go :
-              (x : Turn) → turn s clock held j new ≡ x → went x ≡ booked rows →
-              ((next : List Row) → P next → place-from s clock held j k next ≡ booked rows → P rows) → P rows
-          go over c q below = subst P (booked-same q) h
-          go (misses t) c q below = late-booked q
-          go (books t trial) c q below = below (new ++ trial-rows trial) (books-keep new t trial c h) q
-
       pub place-keeps : {rows : List Row} → P [] → place s clock held j ≡ booked rows → P rows
-      unfolding place
-      place-keeps {rows} h e = place-from-keeps (j .taskcount) [] rows h e
+      place-keeps h e =
+          place-ends (λ left. P) (λ left new t trial n c q.
+          let k = choice-kept s clock held j new t trial c in
+          rw (k .1) (kept new t (k .0) (next-is-next j new t n) (k .2) q)) h e .1

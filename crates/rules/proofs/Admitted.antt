@@ -25,7 +25,7 @@ pub record Admitted (s : Setup) (v : View) (j : Job) : Type 0 where
   pub rows-found : placing s v j ≡ booked (found (placing s v j))
   pub fits : length (v .rows) + length (found (placing s v j)) ≤ row-limit
 
-refuse-none : (b : Bool) → refuse-if b ≡ none → b ≡ false
+pub refuse-none : (b : Bool) → refuse-if b ≡ none → b ≡ false
 refuse-none true e = let z : _≡_ {A = ℕ} 0 1 = cc in absurd (omega arith)
 refuse-none false e = refl
 

@@ -21,10 +21,10 @@ use Rattle.rules.proofs.Sequences.{or-false, any-witness, mem-keep, cou
 use Rattle.rules.proofs.Steps.{settle-keeps, after-keeps}
 use Rattle.rules.proofs.Turns.{place-keeps}
 use Rattle.rules.proofs.Inputs.{booked-only, try-shape}
-use Rattle.rules.proofs.Due.{TaskFacts, MessageFacts, Progress, progress-none, progress-turn}
+use Rattle.rules.proofs.Due.{TaskFacts, MessageFacts, Progress, progress-none}
 use Rattle.rules.proofs.Apart.{no-shared-tick}
 use Rattle.rules.proofs.Order.{in-range-count, in-range-ends, in-range-lower, lower-acyclic}
-use Rattle.rules.proofs.Differ.{in-range-differ}
+use Rattle.rules.proofs.Differ.{turn-due}
 use Rattle.rules.proofs.AllPlaced.{all-placed}
 use Rattle.rules.proofs.Admitted.{Admitted, admitted}
 use Rattle.rules.proofs.Agreement.{Agree, agree-fresh, agree-after, rows-for-entry}
@@ -67,29 +67,7 @@ module _ (s : Setup) (v : View) (j : Job) where
     progress : Progress s j (found (placing s v j))
     unfolding placing
     progress =
-        place-keeps
-        s
-        (v .clock)
-        (v .rows)
-        j
-        (Progress s j)
-        (λ new t m next kept.
-        progress-turn
-        s
-        (v .clock)
-        j
-        (in-range-differ s j (a .in-range))
-        new
-        t
-        m
-        (try s (v .clock) (v .rows) j new t m)
-        (try-shape s (v .clock) (v .rows) j new t m)
-        (next .is-task)
-        (next .is-ready)
-        (kept .is-good .able)
-        (kept .is-good .in-time))
-        (progress-none s j)
-        (a .rows-found)
+        place-keeps s (v .clock) (v .rows) j (Progress s j) (turn-due s (v .clock) (v .rows) j (a .in-range)) (progress-none s j) (a .rows-found)
 
     -- a job in range has a task, so a row is found
     filled : (row : Row) × List·Memᴰ row (found (placing s v j))

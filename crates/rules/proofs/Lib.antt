@@ -18,4 +18,5 @@ pub mod Agreement
 pub mod Struck
 pub mod Demand3
 pub mod DefaultTables
+pub mod Bounds
 pub mod Ledger

@@ -1,0 +1,188 @@
+-- Laws of the search by passes: a pass moves over no free tick, and one that moves nothing has found a free one.
+use mathlib.Core.Path.{_≡_, refl, sym, ap, _∙_}
+use mathlib.Core.Bool.{Bool, true, false, cond, not}
+use mathlib.Core.List.{List, [], _∷_, _++_, List·Memᴰ, List·Memᴰ·head, List·Memᴰ·tail}
+use Prim.Native.Nat.{ℕ, zero, suc, _+_, _≤_, _<_, max, min}
+use native.Mathlib.Omega.{arith}
+use lib.Dec.{eqb, leb}
+use lib.ListN.{getD}
+use borrow.Author.Tests.{ltb-true, lt-ltb, le-ltb, leb-true, leb-false}
+use Rattle.rules.specs.Sequences.{any-of, cons-if}
+use Rattle.rules.specs.Words.{Span, Within, meets}
+use Rattle.rules.specs.Placing.{free, least-free}
+use Rattle.rules.specs.Laws.{Free, IsLeast}
+use Rattle.rules.proofs.Sequences.{by-test}
+use Rattle.rules.proofs.LeastTick.{free-true, meets-shares, least-is-least, least-unique}
+use Rattle.placement.specs.Columns.{entry, spans-of, tick-bound, Lasting}
+use Rattle.placement.specs.Passes.{beyond, swept}
+
+-- One span.
+
+module _ (len start finish tick : ℕ) where
+  abbrev it : Span
+  it = record { start = start; finish = finish }
+
+  pub beyond-later : tick + len ≤ start → beyond len it tick ≡ tick
+  unfolding beyond meets
+  beyond-later h = rw (le-ltb (max tick start) (min (tick + len) finish) (omega arith)) refl
+
+  pub beyond-earlier : finish ≤ tick → beyond len it tick ≡ tick
+  unfolding beyond meets
+  beyond-earlier h = rw (le-ltb (max tick start) (min (tick + len) finish) (omega arith)) refl
+
+  pub beyond-met : 1 ≤ len → start < finish → start < tick + len → tick < finish → beyond len it tick ≡ finish
+  unfolding beyond meets
+  beyond-met a b c d = rw (lt-ltb (max tick start) (min (tick + len) finish) (omega arith)) refl
+
+-- it moves past the span, or the span is not met
+beyond-cases :
+    {C : Type 0} (len : ℕ) (s : Span) (tick : ℕ) →
+    (meets (record { start = tick; finish = tick + len }) s ≡ true → beyond len s tick ≡ s .finish → tick < s .finish → C) →
+    (meets (record { start = tick; finish = tick + len }) s ≡ false → beyond len s tick ≡ tick → C) → C
+unfolding beyond meets
+beyond-cases len s tick f g =
+    by-test
+    (meets (record { start = tick; finish = tick + len }) s)
+    (λ h. let m = ltb-true (max tick (s .start)) (min (tick + len) (s .finish)) h in f h (rw h refl) (omega arith))
+    (λ h. g h (rw h refl))
+
+-- A pass.
+
+pub swept-append : (len : ℕ) (a b : List Span) (tick : ℕ) → swept len (a ++ b) tick ≡ swept len b (swept len a tick)
+swept-append len [] b tick = refl
+swept-append len (s ∷ a) b tick = swept-append len a b (beyond len s tick)
+
+pub swept-from : (len : ℕ) (spans : List Span) (tick : ℕ) → tick ≤ swept len spans tick
+swept-from len [] tick = omega arith
+swept-from len (s ∷ spans) tick =
+    let rest = swept-from len spans (beyond len s tick) in
+    beyond-cases len s tick (λ h e later. omega arith) (λ h e. omega arith)
+
+-- a pass that moves nothing meets nothing
+unmet : (len : ℕ) (spans : List Span) (tick : ℕ) → swept len spans tick ≡ tick → any-of (meets (record { start = tick; finish = tick + len })) spans ≡ false
+unmet len [] tick e = refl
+unmet len (s ∷ spans) tick e =
+    let rest = swept-from len spans (beyond len s tick) in
+    beyond-cases
+    len
+    s
+    tick
+    (λ h q later. absurd (omega arith))
+    (λ h q. rw h (unmet len spans tick (ap (swept len spans) (sym q) ∙ e)))
+
+pub swept-still : (len : ℕ) (spans : List Span) (tick : ℕ) → swept len spans tick ≡ tick → Free len spans tick
+unfolding free
+swept-still len spans tick e = free-true len spans tick (ap not (unmet len spans tick e))
+
+-- no tick that a pass moves over is free
+pub swept-over : (len : ℕ) (spans : List Span) (tick x : ℕ) → tick ≤ x → x < swept len spans tick → Free len spans x → ⊥
+swept-over len [] tick x a b f = omega arith
+swept-over len (s ∷ spans) tick x a b f =
+    let rest : Free len spans x = λ y p q taken. f y p q (taken .0, List·Memᴰ·tail (taken .1), taken .2) in
+    let onward : beyond len s tick ≤ x → ⊥ = λ h. swept-over len spans (beyond len s tick) x h b rest in
+    beyond-cases
+    len
+    s
+    tick
+    (λ h e later.
+        let shared = meets-shares (record { start = tick; finish = tick + len }) s h in
+        let from = shared .1 .1 in
+        let low = shared .2 .0 in
+        let high = shared .2 .1 in
+        by-test
+        (leb (s .finish) x)
+        (λ t. let past = leb-true (s .finish) x t in onward (omega arith))
+        (λ t.
+            let before = leb-false (s .finish) x t in
+            f (max x (s .start)) (omega arith) (omega arith) (s, List·Memᴰ·head refl, (omega arith, omega arith))))
+    (λ h e. onward (omega arith))
+
+-- The pass over the columns, entry by entry.
+
+pub record Swept (rs starts finishes : List ℕ) (n k from len tick i : ℕ) : Type 0 where
+  pub within : i ≤ n
+  pub is-swept : tick ≡ swept len (spans-of k rs starts finishes i) from
+  pub below : tick < tick-bound
+
+pub swept-none : (rs starts finishes : List ℕ) (n k from len : ℕ) → from < tick-bound → Swept rs starts finishes n k from len from 0
+swept-none rs starts finishes n k from len h = record { within = omega arith; is-swept = refl; below = h }
+
+-- what is made of the tick at entry i
+abbrev pub at-entry : (rs starts finishes : List ℕ) (k len tick i : ℕ) → ℕ
+at-entry rs starts finishes k len tick i = cond (eqb (getD rs i 0) k) (beyond len (entry starts finishes i) tick) tick
+
+pub swept-more :
+    (rs starts finishes : List ℕ) (n k from len tick i : ℕ) →
+    Lasting starts finishes n → i < n → Swept rs starts finishes n k from len tick i →
+    Swept rs starts finishes n k from len (at-entry rs starts finishes k len tick i) (suc i)
+swept-more rs starts finishes n k from len tick i lasting h sw =
+    let before = spans-of k rs starts finishes i in
+    let it = entry starts finishes i in
+    let append = swept-append len before (cons-if (eqb (getD rs i 0) k) it []) from in
+    let ends = lasting .ends i h in
+    let was = sw .is-swept in
+    let low = sw .below in
+    by-test
+    (eqb (getD rs i 0) k)
+    (λ e.
+        record {
+            within = h;
+            is-swept = rw (append, e) (ap (beyond len it) was);
+            below = rw e (beyond-cases len it tick (λ m q later. omega arith) (λ m q. omega arith))
+            })
+    (λ e. record { within = h; is-swept = rw (append, e) was; below = rw e low })
+
+-- no span among the columns ends at or past the bound, so no pass does
+pub swept-bound :
+    (rs starts finishes : List ℕ) (n k len tick : ℕ) → Lasting starts finishes n → tick < tick-bound → swept len (spans-of k rs starts finishes n) tick < tick-bound
+swept-bound rs starts finishes n k len tick lasting h = go n (omega arith)
+  where
+    go : (i : ℕ) → i ≤ n → swept len (spans-of k rs starts finishes i) tick < tick-bound
+    go zero a = h
+    go (suc i) a =
+        let sw : Swept rs starts finishes n k tick len (swept len (spans-of k rs starts finishes i) tick) i
+          = record { within = omega arith; is-swept = refl; below = go i (omega arith) } in
+        let next = swept-more rs starts finishes n k tick len (swept len (spans-of k rs starts finishes i) tick) i lasting a sw in
+        rw (← next .is-swept) (next .below)
+
+-- Pass after pass: `last` is what the next pass makes of `tick`, and no tick before it is free.
+
+pub record Seeking (from len : ℕ) (spans : List Span) (tick last : ℕ) : Type 0 where
+  pub not-before : from ≤ tick
+  pub is-last : last ≡ swept len spans tick
+  pub none-free : (x : ℕ) → from ≤ x → x < tick → Free len spans x → ⊥
+  pub below : last < tick-bound
+
+pub seeking-none : (from len : ℕ) (spans : List Span) {last : ℕ} → last ≡ swept len spans from → last < tick-bound → Seeking from len spans from last
+seeking-none from len spans e h = record { not-before = omega arith; is-last = e; none-free = λ x a b. absurd (omega arith); below = h }
+
+pub seeking-more :
+    (from len : ℕ) (spans : List Span) {tick last next : ℕ} → Seeking from len spans tick last → next ≡ swept len spans last → next < tick-bound →
+    Seeking from len spans last next
+seeking-more from len spans {tick} {last} sk e h =
+    let moved = swept-from len spans tick in
+    let start = sk .not-before in
+    let is = sk .is-last in
+    record {
+        not-before = omega arith;
+        is-last = e;
+        none-free =
+            λ x a b f.
+                by-test
+                (leb tick x)
+                (λ t. swept-over len spans tick x (leb-true tick x t) (omega arith) f)
+                (λ t. sk .none-free x a (leb-false tick x t) f);
+        below = h
+        }
+
+pub seeking-found : (from len : ℕ) (spans : List Span) {tick last : ℕ} → Seeking from len spans tick last → last ≤ tick → tick ≡ least-free from len spans
+seeking-found from len spans {tick} sk h =
+    let moved = swept-from len spans tick in
+    let is = sk .is-last in
+    let still : swept len spans tick ≡ tick = omega arith in
+    least-unique
+    from
+    len
+    spans
+    (record { not-before = sk .not-before; is-free = swept-still len spans tick still; none-earlier = sk .none-free })
+    (least-is-least from len spans)

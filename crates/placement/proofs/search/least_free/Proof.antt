@@ -1,0 +1,48 @@
+-- `placement::search::least_free` meets its contract: no tick passed over is free, and the last pass moves nothing.
+use mathlib.Core.Path.{_≡_, refl, sym}
+use Prim.Native.Nat.{_≤_, _<_, _-_}
+use native.Mathlib.Omega.{arith}
+use Rattle.placement.specs.Columns.{spans-of, tick-bound}
+use Rattle.placement.proofs.Passes.{Seeking, seeking-none, seeking-more, seeking-found, swept-bound}
+use Rattle.placement.proofs.search.least_free.Statement.{statement}
+use Rattle.placement.proofs.search.least_free.Tie as tie
+
+abbrev Inv-loop : tie.InvT-loop
+Inv-loop resources starts finishes count key from len tick₀ last₀ tick last =
+    Seeking from len (spans-of key resources starts finishes count) tick last
+
+abbrev μ-loop : tie.MeasureT-loop
+μ-loop resources starts finishes count key from len tick₀ last₀ tick last = tick-bound - tick
+
+sweep-requires : tie.Need-sweep-requires Inv-loop μ-loop
+sweep-requires c κs = c .pre
+
+loop-holds : tie.Need-loop-holds Inv-loop μ-loop
+loop-holds c =
+    let a = c .before .args in
+    let pre = c .before .pre in
+    let bound = swept-bound (a .resources .now) (a .starts .now) (a .finishes .now) (a .count) (a .key) (a .len) (a .from) (pre .spans) (pre .from-below) in
+    seeking-none (a .from) (a .len) _ (c .sweep .ensures) (rw (c .sweep .ensures) bound)
+
+sweep-requires-2 : tie.Need-sweep-requires-2 Inv-loop μ-loop
+sweep-requires-2 c κs =
+    let pre = c .before .before .before .pre in
+    record { spans = pre .spans; from-below = c .before .loop .inv .below; len-above = pre .len-above; len-below = pre .len-below }
+
+loop-less : tie.Need-loop-less Inv-loop μ-loop
+loop-less c = omega arith
+
+loop-again : tie.Need-loop-again Inv-loop μ-loop
+loop-again c =
+    let a = c .before .before .before .before .args in
+    let pre = c .before .before .before .before .pre in
+    let inv = c .before .before .loop .inv in
+    let bound = swept-bound (a .resources .now) (a .starts .now) (a .finishes .now) (a .count) (a .key) (a .len) _ (pre .spans) (inv .below) in
+    seeking-more (a .from) (a .len) _ inv (c .sweep2 .ensures) (rw (c .sweep2 .ensures) bound)
+
+returns : tie.Need-returns Inv-loop μ-loop
+returns c = seeking-found (c .before .before .before .args .from) (c .before .before .before .args .len) _ (c .before .loop .inv) (c .loop-test .left)
+
+pub least-free-spec : {M : Type 1} → statement M
+least-free-spec =
+    tie.close (tie.spec Inv-loop μ-loop sweep-requires loop-holds sweep-requires-2 loop-less loop-again returns)

@@ -1,0 +1,53 @@
+-- Booked spans as three columns of numbers: resource, start and finish.
+use mathlib.Core.Path.{_≡_}
+use mathlib.Core.List.{List, [], _∷_, _++_}
+use Prim.Native.Nat.{ℕ, zero, suc, _+_, _*_, _^_, _≤_, _<_}
+use lib.Dec.{eqb}
+use lib.ListN.{length, getD}
+use Rattle.rules.specs.Sequences.{cons-if}
+use Rattle.rules.specs.Words.{Span, Resource, machine, link, most-machines, resource}
+use Rattle.rules.specs.Placing.{no-row}
+use Rattle.rules.specs.declared.Row.{Row}
+
+-- the number of a resource: a machine's own, and for link a to b one past all machines' and those of other links
+unfoldable pub key : Resource → ℕ
+key (machine m) = m
+key (link a b) = a * (most-machines + 1) + b
+
+-- entry i of the columns
+abbrev pub entry : (starts finishes : List ℕ) → ℕ → Span
+entry starts finishes i = record { start = getD starts i 0; finish = getD finishes i 0 }
+
+-- the spans of a resource, by its number, among the first n entries
+abbrev pub spans-of : ℕ → (resources starts finishes : List ℕ) → (n : ℕ) → List Span
+spans-of k resources starts finishes zero = []
+spans-of k resources starts finishes (suc i) =
+    spans-of k resources starts finishes i ++ cons-if (eqb (getD resources i 0) k) (entry starts finishes i) []
+
+-- every tick that a search may meet lies below this
+abbrev pub tick-bound : ℕ
+tick-bound = 2 ^ 40
+
+-- the columns' length
+abbrev pub room : ℕ
+room = 336
+
+-- the first n spans hold a tick, and end below the bound
+pub record Lasting (starts finishes : List ℕ) (n : ℕ) : Type 0 where
+  pub within : n ≤ room
+  pub lasts : (i : ℕ) → i < n → getD starts i 0 < getD finishes i 0
+  pub ends : (i : ℕ) → i < n → getD finishes i 0 < tick-bound
+
+-- what a search asks
+pub record Searchable (starts finishes : List ℕ) (n from len : ℕ) : Type 0 where
+  pub spans : Lasting starts finishes n
+  pub from-below : from < tick-bound
+  pub len-above : 1 ≤ len
+  pub len-below : len < tick-bound
+
+-- the first n entries are those of the rows, in their order
+pub record Mirrors (rows : List Row) (resources starts finishes : List ℕ) (n : ℕ) : Type 0 where
+  pub all : length rows ≡ n
+  pub resources-are : (i : ℕ) → i < n → getD resources i 0 ≡ key (resource (getD rows i no-row))
+  pub starts-are : (i : ℕ) → i < n → getD starts i 0 ≡ getD rows i no-row .start
+  pub finishes-are : (i : ℕ) → i < n → getD finishes i 0 ≡ getD rows i no-row .finish

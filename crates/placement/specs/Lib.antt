@@ -1,0 +1,3 @@
+-- What the contracts of `placement` cite beside the rules: columns of spans, and what each function asks of its caller.
+pub mod Columns
+pub mod Passes

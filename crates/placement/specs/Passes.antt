@@ -1,0 +1,15 @@
+-- The search by passes.
+use mathlib.Core.Bool.{cond, _&&_}
+use mathlib.Core.List.{List, [], _∷_}
+use Prim.Native.Nat.{ℕ, _+_}
+use lib.Dec.{ltb, eqb}
+use Rattle.rules.specs.Words.{Span, meets}
+
+-- a tick moves past a span that `len` ticks from it on would meet
+unfoldable pub beyond : (len : ℕ) → Span → ℕ → ℕ
+beyond len s tick = cond (meets (record { start = tick; finish = tick + len }) s) (s .finish) tick
+
+-- one pass
+abbrev pub swept : (len : ℕ) → List Span → ℕ → ℕ
+swept len [] tick = tick
+swept len (s ∷ spans) tick = swept len spans (beyond len s tick)

@@ -1,7 +1,7 @@
 -- Every step keeps the bounds: clock and rows in range, no more rows than the limit, and the total the sum of their costs.
 use mathlib.Core.Path.{_≡_, refl, ap, _∙_}
 use mathlib.Core.Logic.{⊎-elim}
-use mathlib.Core.Bool.{Bool, true, not}
+use mathlib.Core.Bool.{Bool, true, false, not}
 use mathlib.Core.List.{List, [], _∷_, _++_, append-nil}
 use mathlib.Core.List.{List·Memᴰ, List·Memᴰ·append-cases, List·Memᴰ·eq-of-singleton, List·Memᴰ·not-nil}
 use Prim.Native.Nat.{ℕ, _+_, _≤_, _<_}
@@ -15,8 +15,9 @@ use Rattle.rules.specs.declared.Row.{Row}
 use Rattle.rules.specs.declared.Message.{Message}
 use Rattle.rules.specs.declared.Job.{Job}
 use Rattle.rules.specs.declared.Setup.{Setup}
+use Rattle.rules.specs.Sequences.{any-of}
 use Rattle.rules.specs.Words.{largest-number, most-tasks, largest-time, horizon, row-limit, link-time, messages-of, task-of, run-time}
-use Rattle.rules.specs.Words.{State, view, fresh, of-job}
+use Rattle.rules.specs.Words.{task-numbers, State, view, fresh, of-job}
 use Rattle.rules.specs.Placing.{task-booking, message-booking, transfer, books-task, books-message, no-row, task-row, message-row, machine-of, machine-for}
 use Rattle.rules.specs.Placing.{placed, crosses, arrival, ready, trial-rows, try, costs, booked, place}
 use Rattle.rules.specs.Withdrawing.{admit, remove, withdraw, advance}
@@ -47,24 +48,39 @@ module _ (s : Setup) (j : Job) (range : InRange s j) where
   number-in-range : Between 1 largest-number (j .number)
   number-in-range = let r = in-between 1 largest-number (j .number) (range .number) in record { first = r .0; last = r .1 }
 
-  task-listed : {t : ℕ} → IsTask j t → Between 1 most-tasks t
+  pub task-listed : {t : ℕ} → IsTask j t → Between 1 most-tasks t
   task-listed is = let count = in-range-count s j range in record { first = is .first; last = omega arith }
 
-  -- a task's deadline is within the horizon, and its run time on each machine within the largest
-  task-figures :
-      {t : ℕ} → IsTask j t → (task-of j t .deadline ≤ horizon) × ((m : ℕ) → Between 1 (s .table .machines) m → run-time j t m ≤ largest-time)
-  unfolding out-of-range task-out-of-range
+  -- the scheduling time is within the largest, and no task has a figure out of range
+  job-figures : (ltb largest-time (j .scheduling) ≡ false) × (any-of (task-out-of-range s j) (task-numbers j) ≡ false)
+  unfolding out-of-range
+  job-figures = or-false (ltb largest-time (j .scheduling)) _ (range .figures)
+
+  pub scheduling-figure : j .scheduling ≤ largest-time
+  scheduling-figure = ltb-false largest-time (j .scheduling) (job-figures .0)
+
+  -- a task's deadline is within the horizon, its dispatch time and its run time on each machine within the largest
+  pub record TaskFigures (t : ℕ) : Type 0 where
+    pub deadline : task-of j t .deadline ≤ horizon
+    pub dispatch : task-of j t .dispatch ≤ largest-time
+    pub runs : (m : ℕ) → Between 1 (s .table .machines) m → run-time j t m ≤ largest-time
+
+  pub task-figures : {t : ℕ} → IsTask j t → TaskFigures t
+  unfolding task-out-of-range
   task-figures {t} is =
-      let figures = any-none (task-out-of-range s j) (or-false (ltb largest-time (j .scheduling)) _ (range .figures) .1) (task-mem j t is) in
+      let figures = any-none (task-out-of-range s j) (job-figures .1) (task-mem j t is) in
       let deadline = or-false (outside 1 horizon (task-of j t .deadline)) _ figures in
-      let runs = or-false (ltb largest-time (task-of j t .dispatch)) _ (deadline .1) .1 in (
-        in-between 1 horizon (task-of j t .deadline) (deadline .0) .1,
-        λ m on.
+      let times = or-false (ltb largest-time (task-of j t .dispatch)) _ (deadline .1) in
+      record {
+        deadline = in-between 1 horizon (task-of j t .deadline) (deadline .0) .1;
+        dispatch = ltb-false largest-time (task-of j t .dispatch) (times .0);
+        runs =
+            λ m on.
             ltb-false
             largest-time
             (run-time j t m)
-            (any-none (λ m. ltb largest-time (run-time j t m)) runs (numbers-mem 1 (s .table .machines) m (on .first) (omega arith))),
-      )
+            (any-none (λ m. ltb largest-time (run-time j t m)) (times .1) (numbers-mem 1 (s .table .machines) m (on .first) (omega arith)));
+      }
 
   -- every row that is due ends by the horizon: a task's by its deadline, a message's by its receiver's start
   ends-in-range : {rows : List Row} → Progress s j rows → (row : Row) → List·Memᴰ row rows → row .finish ≤ horizon
@@ -76,7 +92,7 @@ module _ (s : Setup) (j : Job) (range : InRange s j) where
           let facts : TaskFacts s j rows t = rw (append-nil rows) at (prog .task-facts t p []) in
           let due = facts .due in
           let by = facts .in-time in
-          let deadline = task-figures (facts .is-task) .0 in
+          let deadline = task-figures (facts .is-task) .deadline in
           (omega arith, omega arith)
 
       ends : Owed s j (rows ++ []) row → row .finish ≤ horizon
@@ -106,7 +122,7 @@ module _ (s : Setup) (j : Job) (range : InRange s j) where
       job = number-in-range;
       lasts = omega arith;
       ends = ends;
-      cost = mul-le-mul (sound .rates m) (task-figures is .1 m on);
+      cost = mul-le-mul (sound .rates m) (task-figures is .runs m on);
     }
 
     message-in-range :
@@ -127,12 +143,12 @@ module _ (s : Setup) (j : Job) (range : InRange s j) where
         }
 
     -- the rows booked are due and in range
-    record InBounds (new : List Row) : Type 0 where
-      is-due : Progress s j new
-      in-range : (row : Row) → List·Memᴰ row new → RowInRange s row
+    pub record InBounds (new : List Row) : Type 0 where
+      pub is-due : Progress s j new
+      pub in-range : (row : Row) → List·Memᴰ row new → RowInRange s row
 
     module _ (clock : ℕ) (held : List Row) where
-      turn-in-bounds :
+      pub turn-in-bounds :
           (new : List Row) (t m : ℕ) → IsNext j new t → IsKept s clock held j new t m → InBounds new →
           InBounds (new ++ trial-rows (try s clock held j new t m))
       unfolding ready

@@ -156,3 +156,19 @@ least-by-ticks from len xs ys h =
       none-earlier = λ x low below free. r .none-earlier x low below (λ y p q taken. free y p q (h y .0 taken));
     }
     (least-is-least from len ys)
+
+-- it lies at or before any tick that is late enough and past all spans
+pub least-at-most :
+    (from len : ℕ) (spans : List Span) (bound : ℕ) → from ≤ bound → ((s : Span) → List·Memᴰ s spans → s .finish ≤ bound) → least-free from len spans ≤ bound
+least-at-most from len spans bound h ends =
+    let is = least-is-least from len spans in
+    by-test
+    (leb (least-free from len spans) bound)
+    (leb-true (least-free from len spans) bound)
+    (λ e.
+    absurd
+    (is .none-earlier
+    bound
+    h
+    (leb-false (least-free from len spans) bound e)
+    (λ x a b taken. let past = ends (taken .0) (taken .1) in let inside = taken .2 .1 in omega arith)))

@@ -16,6 +16,7 @@ pub mod Admitted
 pub mod Demand2
 pub mod Agreement
 pub mod Struck
+pub mod Counted
 pub mod Demand3
 pub mod DefaultTables
 pub mod Bounds

@@ -61,6 +61,11 @@ module _ (s : Setup) (j : Job) (range : InRange s j) where
   in-range-count =
       in-between 1 most-tasks (j .taskcount) (or-false (outside 1 most-tasks (j .taskcount)) (ltb most-messages (j .messagecount)) (range .counts) .0)
 
+  pub in-range-messages : j .messagecount ≤ most-messages
+  unfolding miscounted
+  in-range-messages =
+      ltb-false most-messages (j .messagecount) (or-false (outside 1 most-tasks (j .taskcount)) (ltb most-messages (j .messagecount)) (range .counts) .1)
+
   listed-order : (any-of (message-out-of-range j) (messages-of j) ≡ false) × (not (ascending (map listing (messages-of j))) ≡ false)
   unfolding bad-messages
   listed-order = or-false (any-of (message-out-of-range j) (messages-of j)) (not (ascending (map listing (messages-of j)))) (range .messages)

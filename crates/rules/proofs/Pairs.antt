@@ -37,6 +37,18 @@ module _ {A : Type 0} (R : A → A → Type 0) where
       (more (λ z m. absurd (List·Memᴰ·not-nil m)) end)
       (λ x z m n. ⊎-elim (λ e. subst (R x) (sym e) (h x m)) (λ d. absurd (List·Memᴰ·not-nil d)) (List·Memᴰ·cases-cons n))
 
+  pub pairwise-front : (a b : List A) → Pairwise (a ++ b) → Pairwise a
+  pairwise-front [] b p = end
+  pairwise-front (x ∷ a) b (more f rest) = more (λ y m. f y (Memᴰ·append-left b m)) (pairwise-front a b rest)
+
+  pub pairwise-across : (a b : List A) → Pairwise (a ++ b) → (x y : A) → List·Memᴰ x a → List·Memᴰ y b → R x y
+  pairwise-across [] b p x y m n = absurd (List·Memᴰ·not-nil m)
+  pairwise-across (z ∷ a) b (more f rest) x y m n =
+      ⊎-elim
+      (λ e. subst (λ w. R w y) (sym e) (f y (Memᴰ·append-right a n)))
+      (λ d. pairwise-across a b rest x y d n)
+      (List·Memᴰ·cases-cons m)
+
   -- by position
   pub pairwise-at : {l : List A} → Pairwise l → (d : A) (i k : ℕ) → i < k → k < length l → R (getD l i d) (getD l k d)
   pairwise-at end d i k h b = absurd (omega arith)

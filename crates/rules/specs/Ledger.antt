@@ -1,6 +1,8 @@
--- Document 01, "Ledger of examples": those with a star, as one table, and a second table for the order of the refusals and the largest figures.
+-- Document 01, "Ledger of examples": those with a star, as one table.
+use mathlib.Core.Bool.{cond}
 use mathlib.Core.List.{List, [], _∷_, _++_, map}
-use Prim.Native.Nat.{ℕ}
+use Prim.Native.Nat.{ℕ, _+_, _-_, _*_}
+use lib.Dec.{eqb}
 use lib.ListN.{length, replicate}
 use Rattle.rules.specs.declared.Holder.the-variants.{TaskOn, MessageOn}
 use Rattle.rules.specs.declared.Row.{Row}
@@ -13,8 +15,9 @@ use Rattle.rules.specs.Words
 use Rattle.rules.specs.Placing
 use Rattle.rules.specs.Withdrawing
 use Rattle.rules.specs.Refusals
+use Rattle.rules.specs.Sequences.{numbers}
 use Rattle.rules.specs.Words.{Span, State, fresh, view, default-setup}
-use Rattle.rules.specs.Placing.{least-free}
+use Rattle.rules.specs.Placing.{least-free, costs}
 use Rattle.rules.specs.Refusals.{Call, submits, withdraws, moves, step, answers, after, refusal, submit-answer}
 
 -- How the tables are written.
@@ -43,13 +46,15 @@ from-to a b = record { start = a; finish = b }
 abbrev pub admitted : (cost rows : ℕ) → Answer
 admitted c n = record { number = 0; task = 0; cost = c; rows = n }
 
--- An example is a list of calls on a fresh register, or a tick sought; it gives answers and rows, or a tick.
+-- An example is a list of calls on a fresh register, a job asked of a given register, or a tick sought; it gives answers and rows, an answer, or a tick.
 pub data Given : Type 0 where
   calls : List Call → Given
+  asked : State → Job → Given
   sought : (from len : ℕ) → List Span → Given
 
 pub data Outcome : Type 0 where
   leaves : List Answer → List Row → Outcome
+  answered : Answer → Outcome
   tick : ℕ → Outcome
 
 unfoldable pub outcome : Given → Outcome
@@ -64,6 +69,7 @@ unfolding
     Refusals.submit-answer Refusals.withdraw-tests Refusals.withdraw-answer Refusals.clock-tests Refusals.clock-answer Refusals.settle
     Refusals.step Refusals.answers Refusals.after
 outcome (calls cs) = leaves (answers (step default-setup) fresh cs) (after (step default-setup) fresh cs .rows)
+outcome (asked st j) = answered (submit-answer default-setup (view st) j)
 outcome (sought from len spans) = tick (least-free from len spans)
 
 pub record Example : Type 0 where

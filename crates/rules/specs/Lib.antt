@@ -6,6 +6,7 @@ pub mod Withdrawing
 pub mod Refusals
 pub mod Journal
 pub mod Ledger
+pub mod Examples
 pub mod Laws
 pub mod Bounds
 pub mod Demands

@@ -1,2 +1,12 @@
 -- Laws that the functions' proofs cite.
 pub mod Passes
+pub mod Mirror
+pub mod Figures
+pub mod Foremost
+pub mod Tasks
+pub mod Gathering
+pub mod Gathered
+pub mod Attempts
+pub mod Chosen
+pub mod Appending
+pub mod Placed

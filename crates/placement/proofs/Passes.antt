@@ -1,8 +1,9 @@
 -- Laws of the search by passes: a pass moves over no free tick, and one that moves nothing has found a free one.
 use mathlib.Core.Path.{_≡_, refl, sym, ap, _∙_}
 use mathlib.Core.Bool.{Bool, true, false, cond, not}
-use mathlib.Core.List.{List, [], _∷_, _++_, List·Memᴰ, List·Memᴰ·head, List·Memᴰ·tail}
-use Prim.Native.Nat.{ℕ, zero, suc, _+_, _≤_, _<_, max, min}
+use mathlib.Core.Logic.{⊎-elim}
+use mathlib.Core.List.{List, [], _∷_, _++_, List·Memᴰ, List·Memᴰ·head, List·Memᴰ·tail, List·Memᴰ·append-cases, List·Memᴰ·eq-of-singleton, List·Memᴰ·not-nil}
+use Prim.Native.Nat.{ℕ, zero, suc, pred, _+_, _≤_, _<_, max, min}
 use native.Mathlib.Omega.{arith}
 use lib.Dec.{eqb, leb}
 use lib.ListN.{getD}
@@ -12,7 +13,7 @@ use Rattle.rules.specs.Words.{Span, Within, meets}
 use Rattle.rules.specs.Placing.{free, least-free}
 use Rattle.rules.specs.Laws.{Free, IsLeast}
 use Rattle.rules.proofs.Sequences.{by-test}
-use Rattle.rules.proofs.LeastTick.{free-true, meets-shares, least-is-least, least-unique}
+use Rattle.rules.proofs.LeastTick.{free-true, meets-shares, least-is-least, least-unique, least-at-most}
 use Rattle.placement.specs.Columns.{entry, spans-of, tick-bound, Lasting}
 use Rattle.placement.specs.Passes.{beyond, swept}
 
@@ -85,16 +86,16 @@ swept-over len (s ∷ spans) tick x a b f =
     s
     tick
     (λ h e later.
-        let shared = meets-shares (record { start = tick; finish = tick + len }) s h in
-        let from = shared .1 .1 in
-        let low = shared .2 .0 in
-        let high = shared .2 .1 in
-        by-test
-        (leb (s .finish) x)
-        (λ t. let past = leb-true (s .finish) x t in onward (omega arith))
-        (λ t.
-            let before = leb-false (s .finish) x t in
-            f (max x (s .start)) (omega arith) (omega arith) (s, List·Memᴰ·head refl, (omega arith, omega arith))))
+    let shared = meets-shares (record { start = tick; finish = tick + len }) s h in
+    let from = shared .1 .1 in
+    let low = shared .2 .0 in
+    let high = shared .2 .1 in
+    by-test
+    (leb (s .finish) x)
+    (λ t. let past = leb-true (s .finish) x t in onward (omega arith))
+    (λ t.
+    let before = leb-false (s .finish) x t in
+    f (max x (s .start)) (omega arith) (omega arith) (s, List·Memᴰ·head refl, (omega arith, omega arith))))
     (λ h e. onward (omega arith))
 
 -- The pass over the columns, entry by entry.
@@ -125,11 +126,11 @@ swept-more rs starts finishes n k from len tick i lasting h sw =
     by-test
     (eqb (getD rs i 0) k)
     (λ e.
-        record {
-            within = h;
-            is-swept = rw (append, e) (ap (beyond len it) was);
-            below = rw e (beyond-cases len it tick (λ m q later. omega arith) (λ m q. omega arith))
-            })
+    record {
+      within = h;
+      is-swept = rw (append, e) (ap (beyond len it) was);
+      below = rw e (beyond-cases len it tick (λ m q later. omega arith) (λ m q. omega arith));
+    })
     (λ e. record { within = h; is-swept = rw (append, e) was; below = rw e low })
 
 -- no span among the columns ends at or past the bound, so no pass does
@@ -141,7 +142,7 @@ swept-bound rs starts finishes n k len tick lasting h = go n (omega arith)
     go zero a = h
     go (suc i) a =
         let sw : Swept rs starts finishes n k tick len (swept len (spans-of k rs starts finishes i) tick) i
-          = record { within = omega arith; is-swept = refl; below = go i (omega arith) } in
+        = record { within = omega arith; is-swept = refl; below = go i (omega arith) } in
         let next = swept-more rs starts finishes n k tick len (swept len (spans-of k rs starts finishes i) tick) i lasting a sw in
         rw (← next .is-swept) (next .below)
 
@@ -164,16 +165,16 @@ seeking-more from len spans {tick} {last} sk e h =
     let start = sk .not-before in
     let is = sk .is-last in
     record {
-        not-before = omega arith;
-        is-last = e;
-        none-free =
-            λ x a b f.
-                by-test
-                (leb tick x)
-                (λ t. swept-over len spans tick x (leb-true tick x t) (omega arith) f)
-                (λ t. sk .none-free x a (leb-false tick x t) f);
-        below = h
-        }
+      not-before = omega arith;
+      is-last = e;
+      none-free =
+          λ x a b f.
+          by-test
+          (leb tick x)
+          (λ t. swept-over len spans tick x (leb-true tick x t) (omega arith) f)
+          (λ t. sk .none-free x a (leb-false tick x t) f);
+      below = h;
+    }
 
 pub seeking-found : (from len : ℕ) (spans : List Span) {tick last : ℕ} → Seeking from len spans tick last → last ≤ tick → tick ≡ least-free from len spans
 seeking-found from len spans {tick} sk h =
@@ -186,3 +187,36 @@ seeking-found from len spans {tick} sk h =
     spans
     (record { not-before = sk .not-before; is-free = swept-still len spans tick still; none-earlier = sk .none-free })
     (least-is-least from len spans)
+
+-- a span sought among the first n entries is one of them
+pub spans-of-mem :
+    (k : ℕ) (rs starts finishes : List ℕ) (n : ℕ) {s : Span} → List·Memᴰ s (spans-of k rs starts finishes n) →
+    (i : ℕ) × (i < n) × (s ≡ entry starts finishes i)
+spans-of-mem k rs starts finishes zero m = absurd (List·Memᴰ·not-nil m)
+spans-of-mem k rs starts finishes (suc i) {s} m =
+    ⊎-elim
+    (λ d. let r = spans-of-mem k rs starts finishes i d in (r .0, (let h = r .1 in omega arith), r .2))
+    (λ d. (i, omega arith, go (eqb (getD rs i 0) k) d))
+    (List·Memᴰ·append-cases (spans-of k rs starts finishes i) m)
+  where
+    go : (t : Bool) → List·Memᴰ s (cons-if t (entry starts finishes i) []) → s ≡ entry starts finishes i
+    go true d = List·Memᴰ·eq-of-singleton d
+    go false d = absurd (List·Memᴰ·not-nil d)
+
+-- the tick found lies below the bound, as the spans do
+pub least-below :
+    (k : ℕ) (rs starts finishes : List ℕ) (n from len : ℕ) → Lasting starts finishes n → from < tick-bound →
+    least-free from len (spans-of k rs starts finishes n) < tick-bound
+least-below k rs starts finishes n from len lasting h =
+    let most : least-free from len (spans-of k rs starts finishes n) ≤ pred tick-bound
+    = least-at-most
+    from
+    len
+    (spans-of k rs starts finishes n)
+    (pred tick-bound)
+    (omega arith)
+    (λ s m.
+    let r = spans-of-mem k rs starts finishes n m in
+    let end = lasting .ends (r .0) (r .1) in
+    rw (r .2) (omega arith)) in
+    omega arith

@@ -38,6 +38,12 @@ pub record Lasting (starts finishes : List ℕ) (n : ℕ) : Type 0 where
   pub lasts : (i : ℕ) → i < n → getD starts i 0 < getD finishes i 0
   pub ends : (i : ℕ) → i < n → getD finishes i 0 < tick-bound
 
+-- the columns have their length
+pub record Widths (resources starts finishes : List ℕ) : Type 0 where
+  pub resources-long : length resources ≡ room
+  pub starts-long : length starts ≡ room
+  pub finishes-long : length finishes ≡ room
+
 -- what a search asks
 pub record Searchable (starts finishes : List ℕ) (n from len : ℕ) : Type 0 where
   pub spans : Lasting starts finishes n

@@ -1,3 +1,6 @@
 -- What the contracts of `placement` cite beside the rules: columns of spans, and what each function asks of its caller.
 pub mod Columns
 pub mod Passes
+pub mod Asked
+pub mod Trials
+pub mod Placements

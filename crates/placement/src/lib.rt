@@ -1,7 +1,34 @@
 // DRCD placement: where a job's tasks and messages go among the rows that are held.
+pub mod bookings;
+pub mod choice;
+pub mod columns;
+pub mod order;
+pub mod place;
 pub mod search;
+pub mod trial;
 
-// Held rows, a job's own, and the messages of one trial.
+use rules::Row;
+
+// Held rows, a job's own, those of one trial, and spans for all of them.
 pub const HELD: usize = 256;
-pub const OWN: usize = 48;
+
+pub const OWN: usize = rules::TASKS + rules::MESSAGES;
+
+pub const TRIED: usize = rules::MESSAGES + 1;
+
 pub const SPANS: usize = HELD + OWN + rules::MESSAGES;
+
+// Where a job's tasks stand so far: the machine, 0 while a task is not placed, and the finish.
+pub struct Standing {
+    pub machines: [u64; rules::TASKS],
+    pub finishes: [u64; rules::TASKS],
+}
+
+// A trial of a machine: the rows of the messages that take one, then the task's own; their cost, and the task's start and finish.
+pub struct Attempt {
+    pub rows: [Row; TRIED],
+    pub count: usize,
+    pub cost: u64,
+    pub start: u64,
+    pub finish: u64,
+}

@@ -1,6 +1,5 @@
 // The search for the least free tick, over columns of spans.
 use crate::SPANS;
-
 ghost use mathlib.Core.Path.{_≡_};
 ghost use mathlib.Core.Bool.{cond};
 ghost use Prim.Native.Nat.{_+_, _^_, _≤_, _<_};

@@ -27,9 +27,10 @@ returns-4 : tie.Need-returns-4
 returns-4 c =
     let a = c .before .before .before .args in
     let pre = c .before .before .before .pre in
-    rw
-    (eq-eqb (a .resource) (a .key) (c .before .before .if1 .left),
-    beyond-met (a .len) (a .start) (a .finish) (a .tick) (pre .1) (pre .2) (c .before .if2 .left) (c .if3 .left))
+    rw (
+      eq-eqb (a .resource) (a .key) (c .before .before .if1 .left),
+      beyond-met (a .len) (a .start) (a .finish) (a .tick) (pre .1) (pre .2) (c .before .if2 .left) (c .if3 .left),
+    )
     refl
 
 pub past-spec : {M : Type 1} → statement M

@@ -1,0 +1,277 @@
+-- Laws of the order of tasks: which is ready, which is next, and the floor of its start.
+use mathlib.Core.Path.{_≡_, refl, sym, ap, _∙_}
+use mathlib.Core.Bool.{Bool, true, false, _&&_, and-false}
+use mathlib.Core.List.{List, [], _∷_, _++_, map, List·Memᴰ}
+use mathlib.Core.Option.{some}
+use Prim.Native.Nat.{ℕ, zero, suc, _+_, _-_, _*_, _≤_, _<_}
+use native.Mathlib.Omega.{arith}
+use native.Mathlib.Numerals.{add-one}
+use lib.Dec.{eqb, ltb}
+use lib.ListN.{getD, take, length, length-map}
+use lib.Seq.{take-suc, getD-take, length-take-le}
+use borrow.Author.Tests.{eqb-true, eqb-false, eq-eqb, ne-eqb, lt-ltb, le-ltb}
+use Rattle.rules.specs.declared.Row.{Row}
+use Rattle.rules.specs.declared.Message.{Message}
+use Rattle.rules.specs.declared.Job.{Job}
+use Rattle.rules.specs.Sequences.{all-of, cons-if, keep, sum-of, numbers, precedes, foremost}
+use Rattle.rules.specs.Words.{most-tasks, most-messages, largest-time, messages-of, no-task, task-of}
+use Rattle.rules.specs.Placing.{placed, into, ready, next-task, release}
+use Rattle.rules.proofs.Sequences.{by-test, clash, all-mem, keep-mem, keep-append, sum-append, getD-mem}
+use Rattle.rules.proofs.Choice.{false-precedes}
+use Rattle.placement.proofs.Foremost.{later, foremost-more, keep-passing, keep-failing, lower-precedes}
+use Rattle.placement.specs.Asked.{AskTask, AskRelease, Stands, next-of}
+
+-- the length of a field that is an array of structs, as what owning it tells has it
+pub length-mapped : (A B : Type 0) (f : A → B) (l : List A) (n : ℕ) → length (map f l) ≡ n → length l ≡ n
+length-mapped A B f l n e = sym (length-map l f) ∙ e
+
+-- Which task is ready: message by message.
+
+all-append : {A : Type 0} (p : A → Bool) (a b : List A) → all-of p (a ++ b) ≡ all-of p a && all-of p b
+all-append p [] b = refl
+all-append p (x ∷ a) b = by-test (p x) (λ h. rw h (all-append p a b)) (λ h. rw h refl)
+
+abbrev no-message : Message
+no-message = record { sender = 0; receiver = 0; volume = 0 }
+
+abbrev pub message-at : Job → ℕ → Message
+message-at j i = getD (j .messages) i no-message
+
+-- of the first i messages, those into the task come from tasks that are placed
+pub record Passed (j : Job) (machines finishes : List ℕ) (task i : ℕ) : Type 0 where
+  pub within : i ≤ j .messagecount
+  pub long : length (j .messages) ≡ most-messages
+  pub senders :
+      (new : List Row) → Stands new machines finishes →
+      all-of (λ msg. placed new (msg .sender)) (keep (λ msg. eqb (msg .receiver) task) (take i (j .messages))) ≡ true
+
+pub passed-none :
+    (j : Job) (machines finishes : List ℕ) (task : ℕ) → length (j .messages) ≡ most-messages → Passed j machines finishes task 0
+passed-none j machines finishes task h = record { within = omega arith; long = h; senders = λ new stands. refl }
+
+pub placed-unready :
+    {j : Job} {machines finishes : List ℕ} {task : ℕ} → AskTask j task → (getD machines (task - 1) 0 ≡ 0 → ⊥) →
+    (new : List Row) → Stands new machines finishes → false ≡ ready j new task
+unfolding ready
+placed-unready {machines = machines} {task = task} ask own new stands =
+    let is = stands .placed-is task (ask .listed .first) (omega arith) ∙ lt-ltb 0 (getD machines (task - 1) 0) (omega (arith, own)) in
+    rw is refl
+
+module _ {j : Job} {machines finishes : List ℕ} {task i : ℕ} (ask : AskTask j task) (passed : Passed j machines finishes task i) where
+  -- it is ready once all messages are passed
+  pub passed-ready :
+      getD machines (task - 1) 0 ≡ 0 → j .messagecount ≤ i → (new : List Row) → Stands new machines finishes → true ≡ ready j new task
+  unfolding ready
+  passed-ready own all new stands =
+      let same : j .messagecount ≡ i = omega arith in
+      let unplaced = stands .placed-is task (ask .listed .first) (omega arith) ∙ le-ltb 0 (getD machines (task - 1) 0) (omega arith) in
+      rw (unplaced, same, passed .senders new stands) refl
+
+  module _ (more : i < j .messagecount) where
+    listed : List·Memᴰ (message-at j i) (messages-of j)
+    listed =
+        rw
+        (← getD-take (j .messagecount) (j .messages) i no-message more)
+        (getD-mem (messages-of j) i _ (rw (length-take-le (j .messagecount) (j .messages) (omega arith)) more))
+
+    pub sender-within : (1 ≤ message-at j i .sender) × (message-at j i .sender ≤ most-tasks)
+    sender-within =
+        let is = ask .order .ends (message-at j i) listed .0 in
+        (is .first, omega arith)
+
+    sender-placed : (new : List Row) → Stands new machines finishes → placed new (message-at j i .sender) ≡ ltb 0 (getD machines (message-at j i .sender - 1) 0)
+    sender-placed new stands = stands .placed-is (message-at j i .sender) (sender-within .0) (sender-within .1)
+
+    passed-more :
+        ((new : List Row) → Stands new machines finishes →
+        all-of (λ msg. placed new (msg .sender)) (cons-if (eqb (message-at j i .receiver) task) (message-at j i) []) ≡ true) →
+        Passed j machines finishes task (i + 1)
+    passed-more h =
+        let below : i < length (j .messages) = omega arith in
+        record {
+          within = omega arith;
+          long = passed .long;
+          senders =
+              λ new stands.
+              rw (
+                add-one,
+                take-suc (j .messages) i no-message below,
+                keep-append,
+                all-append,
+                passed .senders new stands,
+              )
+              (h new stands);
+        }
+
+    pub passed-other : (message-at j i .receiver ≡ task → ⊥) → Passed j machines finishes task (i + 1)
+    passed-other ne = passed-more (λ new stands. rw (ne-eqb (message-at j i .receiver) task ne) refl)
+
+    pub passed-placed : (getD machines (message-at j i .sender - 1) 0 ≡ 0 → ⊥) → Passed j machines finishes task (i + 1)
+    passed-placed ne =
+        passed-more
+        (λ new stands.
+        let is = sender-placed new stands ∙ lt-ltb 0 (getD machines (message-at j i .sender - 1) 0) (omega (arith, ne)) in
+        by-test (eqb (message-at j i .receiver) task) (λ h. rw (h, is) refl) (λ h. rw h refl))
+
+    pub sender-unplaced :
+        message-at j i .receiver ≡ task → getD machines (message-at j i .sender - 1) 0 ≡ 0 → (new : List Row) → Stands new machines finishes →
+        false ≡ ready j new task
+    unfolding ready
+    sender-unplaced into-it e new stands =
+        let is-not = sender-placed new stands ∙ le-ltb 0 (getD machines (message-at j i .sender - 1) 0) (omega arith) in
+        let its = keep-mem (λ msg. eqb (msg .receiver) task) listed (eq-eqb (message-at j i .receiver) task into-it) in
+        let none : all-of (λ msg. placed new (msg .sender)) (into j task) ≡ false
+        = by-test (all-of (λ msg. placed new (msg .sender)) (into j task)) (λ h. clash (all-mem _ h its) is-not) (λ h. h) in
+        rw (none, and-false) refl
+
+-- Which task is next: task by task.
+
+abbrev pub figures : Job → ℕ → List ℕ
+figures j t = task-of j t .deadline ∷ t ∷ []
+
+-- the foremost of those ready among the first t tasks, or 0
+pub record Best (j : Job) (machines finishes : List ℕ) (best deadline t : ℕ) : Type 0 where
+  pub within : t ≤ j .taskcount
+  pub among : best ≤ t
+  pub its : (best ≡ 0 → ⊥) → deadline ≡ task-of j best .deadline
+  pub is-best : (new : List Row) → Stands new machines finishes → next-of best ≡ foremost (figures j) (keep (ready j new) (numbers 1 t))
+
+pub best-none : (j : Job) (machines finishes : List ℕ) → Best j machines finishes 0 0 0
+unfolding foremost
+best-none j machines finishes = record { within = omega arith; among = omega arith; its = λ ne. absurd (ne refl); is-best = λ new stands. refl }
+
+next-some : {t : ℕ} → (t ≡ 0 → ⊥) → next-of t ≡ some t
+next-some {t = zero} ne = absurd (ne refl)
+next-some {t = suc t} ne = refl
+
+task-at : (j : Job) (t : ℕ) → task-of j (t + 1) ≡ getD (j .tasks) t no-task
+task-at j t = let same : t + 1 - 1 ≡ t = omega arith in ap (λ i. getD (j .tasks) i no-task) same
+
+-- a task of a higher number and no earlier deadline does not precede
+no-earlier :
+    (j : Job) (t best : ℕ) → best ≤ t → task-of j best .deadline ≤ task-of j (t + 1) .deadline →
+    precedes (figures j (t + 1)) (figures j best) ≡ false
+no-earlier j t best h k = false-precedes _ _ _ _ k (λ e. false-precedes (t + 1) best [] [] (omega arith) (λ q. absurd (omega arith)))
+
+module _ {j : Job} {machines finishes : List ℕ} {best deadline t : ℕ} (sofar : Best j machines finishes best deadline t) where
+  pub best-found : j .taskcount ≤ t → (new : List Row) → Stands new machines finishes → next-of best ≡ next-task j new
+  unfolding next-task
+  best-found all new stands =
+      let same : t ≡ j .taskcount = omega arith in
+      sofar .is-best new stands ∙ ap (λ n. foremost (figures j) (keep (ready j new) (numbers 1 n))) same
+
+  module _ (more : t < j .taskcount) {r : Bool} (known : (new : List Row) → Stands new machines finishes → r ≡ ready j new (t + 1)) where
+    pub best-unready : r ≡ false → Best j machines finishes best deadline (t + 1)
+    best-unready e =
+        record {
+          within = omega arith;
+          among = omega arith;
+          its = sofar .its;
+          is-best = λ new stands. rw (keep-failing (ready j new) t (sym (known new stands) ∙ e)) (sofar .is-best new stands);
+        }
+
+    module _ (is : r ≡ true) where
+      with-more :
+          (new : List Row) → Stands new machines finishes →
+          foremost (figures j) (keep (ready j new) (numbers 1 (t + 1))) ≡ some (later (figures j) (t + 1) (next-of best))
+      with-more new stands =
+          rw
+          (keep-passing (ready j new) t (sym (known new stands) ∙ is), sofar .is-best new stands)
+          (foremost-more (figures j) (keep (ready j new) (numbers 1 t)) (t + 1))
+
+      pub best-kept : (best ≡ 0 → ⊥) → deadline ≤ getD (j .tasks) t no-task .deadline → Best j machines finishes best deadline (t + 1)
+      best-kept ne h =
+          let was = sofar .its ne in
+          let own = ap (λ task. task .deadline) (task-at j t) in
+          let behind = no-earlier j t best (sofar .among) (omega arith) in
+          record {
+            within = omega arith;
+            among = omega arith;
+            its = sofar .its;
+            is-best = λ new stands. next-some ne ∙ sym (with-more new stands ∙ rw (next-some ne, behind) refl);
+          }
+
+      pub best-taken :
+          ((best ≡ 0 → ⊥) → getD (j .tasks) t no-task .deadline < deadline) →
+          Best j machines finishes (t + 1) (getD (j .tasks) t no-task .deadline) (t + 1)
+      best-taken h = record {
+        within = omega arith;
+        among = omega arith;
+        its = λ ne. sym own;
+        is-best = λ new stands. next-some (omega arith) ∙ sym (with-more new stands ∙ ap some first);
+      }
+        where
+          own : task-of j (t + 1) .deadline ≡ getD (j .tasks) t no-task .deadline
+          own = ap (λ task. task .deadline) (task-at j t)
+
+          first : later (figures j) (t + 1) (next-of best) ≡ t + 1
+          first =
+              by-test
+              (eqb best 0)
+              (λ e. rw (eqb-true best 0 e) refl)
+              (λ e.
+              let ne = eqb-false best 0 e in
+              let was = sofar .its ne in
+              let lower = h ne in
+              let earlier : task-of j (t + 1) .deadline < task-of j best .deadline = omega (arith, own) in
+              rw (next-some ne, lower-precedes _ _ ((t + 1) ∷ []) (best ∷ []) earlier) refl)
+
+-- The floor of a task's start: task by task.
+
+-- the dispatch times of those placed among the first t tasks, added up
+pub record Summed (j : Job) (machines finishes : List ℕ) (sum t : ℕ) : Type 0 where
+  pub within : t ≤ j .taskcount
+  pub at-most : sum ≤ largest-time * t
+  pub is-sum : (new : List Row) → Stands new machines finishes → sum ≡ sum-of (λ k. task-of j k .dispatch) (keep (placed new) (numbers 1 t))
+
+pub summed-none : (j : Job) (machines finishes : List ℕ) → Summed j machines finishes 0 0
+summed-none j machines finishes = record { within = omega arith; at-most = omega arith; is-sum = λ new stands. refl }
+
+module _ {j : Job} {machines finishes : List ℕ} {clock task sum t : ℕ} (ask : AskRelease j clock task) (sofar : Summed j machines finishes sum t) where
+  pub summed-release :
+      j .taskcount ≤ t → (new : List Row) → Stands new machines finishes →
+      clock + j .scheduling + sum + task-of j task .dispatch ≡ release clock j new task
+  unfolding release
+  summed-release all new stands =
+      let same : t ≡ j .taskcount = omega arith in
+      let is = sofar .is-sum new stands ∙ ap (λ n. sum-of (λ k. task-of j k .dispatch) (keep (placed new) (numbers 1 n))) same in
+      ap (λ n. clock + j .scheduling + n + task-of j task .dispatch) is
+
+  module _ (more : t < j .taskcount) where
+    placed-at : (new : List Row) → Stands new machines finishes → placed new (t + 1) ≡ ltb 0 (getD machines t 0)
+    placed-at new stands =
+        let same : t + 1 - 1 ≡ t = omega arith in
+        stands .placed-is (t + 1) (omega arith) (omega arith) ∙ ap (λ i. ltb 0 (getD machines i 0)) same
+
+    pub dispatch-at-most : getD (j .tasks) t no-task .dispatch ≤ largest-time
+    dispatch-at-most =
+        let own = ap (λ task. task .dispatch) (task-at j t) in
+        let most = ask .dispatches (t + 1) (record { first = omega arith; last = omega arith }) in
+        omega arith
+
+    pub summed-unplaced : getD machines t 0 ≡ 0 → Summed j machines finishes sum (t + 1)
+    summed-unplaced e =
+        record {
+          within = omega arith;
+          at-most = omega arith;
+          is-sum =
+              λ new stands.
+              rw
+              (keep-failing (placed new) t (placed-at new stands ∙ le-ltb 0 (getD machines t 0) (omega arith)))
+              (sofar .is-sum new stands);
+        }
+
+    pub summed-placed : (getD machines t 0 ≡ 0 → ⊥) → Summed j machines finishes (sum + getD (j .tasks) t no-task .dispatch) (t + 1)
+    summed-placed ne =
+        let low = dispatch-at-most in
+        record {
+          within = omega arith;
+          at-most = omega arith;
+          is-sum =
+              λ new stands.
+              let was = sofar .is-sum new stands in
+              let own = ap (λ task. task .dispatch) (task-at j t) in
+              rw
+              (keep-passing (placed new) t (placed-at new stands ∙ lt-ltb 0 (getD machines t 0) (omega (arith, ne))), sum-append)
+              (omega arith);
+        }

@@ -1,0 +1,134 @@
+-- `placement::choice::choose` meets its contract: after m machines what is kept is the foremost of their good trials.
+use Prim.Native.Nat.{_-_}
+use native.Mathlib.Omega.{arith}
+use borrow.Author.Tests.{not-true, not-false}
+use Rattle.placement.proofs.Chosen.{Chosen, chosen-none, chosen-unable, chosen-asks, chosen-late, chosen-stays, chosen-taken, chosen-all}
+use Rattle.placement.proofs.choice.choose.Statement.{statement}
+use Rattle.placement.proofs.choice.choose.Tie as tie
+
+abbrev Inv-loop : tie.InvT-loop
+Inv-loop s standing task release resources₀ starts₀ finishes₀ used job at its table kept₀ m₀ resources starts finishes kept m =
+    Chosen s job (standing .machines) (standing .finishes) task release resources₀ starts₀ finishes₀ used resources starts finishes kept m
+
+abbrev μ-loop : tie.MeasureT-loop
+μ-loop s standing task release resources₀ starts₀ finishes₀ used job at its table kept₀ m₀ resources starts finishes kept m =
+    s .table .machines - m
+
+sub-at : tie.Need-sub-at Inv-loop μ-loop
+sub-at c = c .pre .listed .first
+
+mul-its : tie.Need-mul-its Inv-loop μ-loop
+mul-its c = omega arith
+
+element-copy-out-its : tie.Need-element-copy-out-its Inv-loop μ-loop
+element-copy-out-its c = omega arith
+
+nothing-requires : tie.Need-nothing-requires Inv-loop μ-loop
+nothing-requires c κs = tt
+
+loop-holds : tie.Need-loop-holds Inv-loop μ-loop
+loop-holds c = chosen-none (c .before .before .before .pre) _ (c .nothing .ensures .0) (c .nothing .ensures .1)
+
+mul-run : tie.Need-mul-run Inv-loop μ-loop
+mul-run c = omega arith
+
+element-copy-out-run : tie.Need-element-copy-out-run Inv-loop μ-loop
+element-copy-out-run c = omega arith
+
+add-m : tie.Need-add-m Inv-loop μ-loop
+add-m c = omega arith
+
+loop-less : tie.Need-loop-less Inv-loop μ-loop
+loop-less c = omega arith
+
+loop-again : tie.Need-loop-again Inv-loop μ-loop
+loop-again c =
+    let at = c .before .before .before .before in
+    chosen-unable (at .before .before .before .before .pre) (at .loop .inv) (c .before .before .if1 .taken) (c .if2 .taken)
+
+attempt-requires : tie.Need-attempt-requires Inv-loop μ-loop
+attempt-requires c κs =
+    let at = c .before .before .before .before .before .before .before in
+    chosen-asks
+    (at .before .before .before .before .pre)
+    (at .loop .inv)
+    (c .before .before .before .before .before .if1 .taken)
+    (c .before .before .before .if2 .left)
+
+loop-less-2 : tie.Need-loop-less-2 Inv-loop μ-loop
+loop-less-2 c = omega arith
+
+loop-again-2 : tie.Need-loop-again-2 Inv-loop μ-loop
+loop-again-2 c =
+    let at = c .before .before .before .before .before .before .before .before .before .before in
+    chosen-late
+    (at .before .before .before .before .pre)
+    (at .loop .inv)
+    (c .before .before .before .before .before .before .before .before .if1 .taken)
+    (c .before .before .before .before .before .before .if2 .left)
+    (c .before .before .attempt .ensures)
+    (c .if3 .taken)
+
+comes-first-requires : tie.Need-comes-first-requires Inv-loop μ-loop
+comes-first-requires c κs = tt
+
+loop-less-3 : tie.Need-loop-less-3 Inv-loop μ-loop
+loop-less-3 c = omega arith
+
+loop-again-3 : tie.Need-loop-again-3 Inv-loop μ-loop
+loop-again-3 c =
+    let at = c .before .before .before .before .before .before .before .before .before .before .before .before .before in
+    chosen-stays
+    (at .before .before .before .before .pre)
+    (at .loop .inv)
+    (c .before .before .before .before .before .before .before .before .before .before .before .if1 .taken)
+    (c .before .before .before .before .before .before .before .before .before .if2 .left)
+    (c .before .before .before .before .before .attempt .ensures)
+    (c .before .before .before .if3 .left)
+    (c .before .comes-first .ensures)
+    (not-true _ (c .if4 .taken))
+
+loop-less-4 : tie.Need-loop-less-4 Inv-loop μ-loop
+loop-less-4 c = omega arith
+
+loop-again-4 : tie.Need-loop-again-4 Inv-loop μ-loop
+loop-again-4 c =
+    let at = c .before .before .before .before .before .before .before .before .before .before .before .before .before in
+    chosen-taken
+    (at .before .before .before .before .pre)
+    (at .loop .inv)
+    (c .before .before .before .before .before .before .before .before .before .before .before .if1 .taken)
+    (c .before .before .before .before .before .before .before .before .before .if2 .left)
+    (c .before .before .before .before .before .attempt .ensures)
+    (c .before .before .before .if3 .left)
+    (c .before .comes-first .ensures)
+    (not-false _ (c .if4 .left))
+
+returns : tie.Need-returns Inv-loop μ-loop
+returns c = chosen-all (c .before .before .before .before .before .before .pre) (c .before .before .loop .inv) (c .if1 .left)
+
+pub choose-spec : {M : Type 1} → statement M
+choose-spec =
+    tie.close
+    (tie.spec
+    Inv-loop
+    μ-loop
+    sub-at
+    mul-its
+    element-copy-out-its
+    nothing-requires
+    loop-holds
+    mul-run
+    element-copy-out-run
+    add-m
+    loop-less
+    loop-again
+    attempt-requires
+    loop-less-2
+    loop-again-2
+    comes-first-requires
+    loop-less-3
+    loop-again-3
+    loop-less-4
+    loop-again-4
+    returns)

@@ -1,0 +1,67 @@
+-- `placement::columns::fill` meets its contract: after i turns the columns mirror the first i rows.
+use mathlib.Core.Path.{_≡_}
+use Prim.Native.Nat.{_-_}
+use native.Mathlib.Omega.{arith}
+use native.Mathlib.Numerals.{add-one}
+use lib.ListN.{length}
+use borrow.Author.Needs.{needs}
+use Rattle.placement.proofs.Mirror.{Filled, filled-none, filled-more}
+use Rattle.placement.proofs.columns.fill.Statement.{statement}
+use Rattle.placement.proofs.columns.fill.Tie as tie
+
+abbrev Inv-loop : tie.InvT-loop
+Inv-loop count resources₀ starts₀ finishes₀ rows i₀ resources starts finishes i = Filled rows count resources starts finishes i
+
+abbrev μ-loop : tie.MeasureT-loop
+μ-loop count resources₀ starts₀ finishes₀ rows i₀ resources starts finishes i = count - i
+
+loop-holds : tie.Need-loop-holds Inv-loop μ-loop
+loop-holds c = filled-none (c .args .t1) (c .args .count) (c .pre .widths)
+
+mul-row : tie.Need-mul-row Inv-loop μ-loop
+mul-row c = omega arith
+
+array-copy-out-row : tie.Need-array-copy-out-row Inv-loop μ-loop
+array-copy-out-row c = omega arith
+
+put-requires : tie.Need-put-requires Inv-loop μ-loop
+put-requires c κs =
+    let at = c .before .before .before .before .before in
+    (omega arith, at .before .pre .numbered (at .loop .i) (c .before .before .before .before .loop-test .taken))
+
+add-i : tie.Need-add-i Inv-loop μ-loop
+add-i c = omega arith
+
+loop-less : tie.Need-loop-less Inv-loop μ-loop
+loop-less c = omega arith
+
+loop-again : tie.Need-loop-again Inv-loop μ-loop
+loop-again c =
+    let at = c .before .before .before .before .before .before in
+    let a = at .before .args in
+    let long : length (a .t1) ≡ 256 = search needs in
+    let put = c .put .ensures in
+    rw
+    (put .0, put .1 .0, put .1 .1, add-one)
+    (filled-more (a .t1) (a .count) (at .loop .inv) (omega arith) (omega arith) (omega arith))
+
+returns : tie.Need-returns Inv-loop μ-loop
+returns c =
+    let inv = c .before .loop .inv in
+    let all : c .before .loop .i ≡ c .before .before .args .count = omega arith in
+    (inv .widths, rw (← all) (inv .mirrors))
+
+pub fill-spec : {M : Type 1} → statement M
+fill-spec =
+    tie.close
+    (tie.spec
+    Inv-loop
+    μ-loop
+    loop-holds
+    mul-row
+    array-copy-out-row
+    put-requires
+    add-i
+    loop-less
+    loop-again
+    returns)

@@ -1,0 +1,89 @@
+-- `placement::order::next_ready` meets its contract: after t tasks the best is the foremost of those of them that are ready.
+use mathlib.Core.Logic.{⊎-elim}
+use Prim.Native.Nat.{_-_}
+use native.Mathlib.Omega.{arith}
+use borrow.Author.Tests.{leb-true, leb-false, not-true, not-false}
+use Rattle.placement.proofs.Tasks.{Best, best-none, best-unready, best-kept, best-taken, best-found}
+use Rattle.placement.proofs.order.next_ready.Statement.{statement}
+use Rattle.placement.proofs.order.next_ready.Tie as tie
+
+abbrev Inv-loop : tie.InvT-loop
+Inv-loop standing job best₀ deadline₀ t₀ best deadline t = Best job (standing .machines) (standing .finishes) best deadline t
+
+abbrev μ-loop : tie.MeasureT-loop
+μ-loop standing job best₀ deadline₀ t₀ best deadline t = job .taskcount - t
+
+loop-holds : tie.Need-loop-holds Inv-loop μ-loop
+loop-holds c = best-none _ _ _
+
+mul-its : tie.Need-mul-its Inv-loop μ-loop
+mul-its c = omega arith
+
+element-copy-out-its : tie.Need-element-copy-out-its Inv-loop μ-loop
+element-copy-out-its c = omega arith
+
+add-t : tie.Need-add-t Inv-loop μ-loop
+add-t c = omega arith
+
+is-ready-requires : tie.Need-is-ready-requires Inv-loop μ-loop
+is-ready-requires c κs = record { order = c .before .before .pre; listed = record { first = omega arith; last = omega arith } }
+
+loop-less : tie.Need-loop-less Inv-loop μ-loop
+loop-less c = omega arith
+
+loop-again : tie.Need-loop-again Inv-loop μ-loop
+loop-again c =
+    best-unready
+    (c .before .before .before .loop .inv)
+    (c .before .before .loop-test .taken)
+    (c .before .is-ready .ensures)
+    (not-true _ (c .if1 .taken))
+
+loop-less-2 : tie.Need-loop-less-2 Inv-loop μ-loop
+loop-less-2 c = omega arith
+
+loop-again-2 : tie.Need-loop-again-2 Inv-loop μ-loop
+loop-again-2 c =
+    let at = c .before .before .before .before in
+    best-kept
+    (at .before .loop .inv)
+    (at .loop-test .taken)
+    (c .before .before .before .is-ready .ensures)
+    (not-false _ (c .before .before .if1 .left))
+    (c .before .if2 .taken)
+    (leb-true _ _ (c .if3 .taken))
+
+loop-less-3 : tie.Need-loop-less-3 Inv-loop μ-loop
+loop-less-3 c = omega arith
+
+loop-again-3 : tie.Need-loop-again-3 Inv-loop μ-loop
+loop-again-3 c =
+    let at = c .before .before .before in
+    best-taken
+    (at .before .loop .inv)
+    (at .loop-test .taken)
+    (c .before .before .is-ready .ensures)
+    (not-false _ (c .before .if1 .left))
+    (λ ne. ⊎-elim (λ w. leb-false _ _ (w .1 .left)) (λ w. absurd (ne (w .left))) (c .if2 .came))
+
+returns : tie.Need-returns Inv-loop μ-loop
+returns c = best-found (c .before .loop .inv) (c .loop-test .left)
+
+pub next-ready-spec : {M : Type 1} → statement M
+next-ready-spec =
+    tie.close
+    (tie.spec
+    Inv-loop
+    μ-loop
+    loop-holds
+    mul-its
+    element-copy-out-its
+    add-t
+    is-ready-requires
+    loop-less
+    loop-again
+    loop-less-2
+    loop-again-2
+    loop-less-3
+    loop-again-3
+    returns)

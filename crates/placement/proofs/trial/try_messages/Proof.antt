@@ -1,0 +1,236 @@
+-- `placement::trial::try_messages` meets its contract: after i messages the rows tried are those of the rules.
+use mathlib.Core.Path.{_≡_, refl, sym, ap, _∙_}
+use Prim.Native.Nat.{ℕ, _-_, _+_, _<_, _≤_}
+use native.Mathlib.Omega.{arith}
+use native.Mathlib.Numerals.{add-one}
+use lib.ListN.{length, getD}
+use borrow.Author.Needs.{needs}
+use Rattle.rules.specs.declared.Message.{Message}
+use Rattle.rules.specs.Words.{most-messages, most-tasks}
+use Rattle.placement.proofs.Tasks.{length-mapped}
+use Rattle.placement.proofs.Gathered.{Gathered, gathered-none, gathered-other, gathered-without, gathered-with, gathered-all}
+use Rattle.placement.proofs.Gathered.{sender-listed, ask-input, input-fits, crosses-apart, crosses-together, crosses-empty}
+use Rattle.placement.proofs.trial.try_messages.Statement.{statement}
+use Rattle.placement.proofs.trial.try_messages.Tie as tie
+
+abbrev Inv-loop : tie.InvT-loop
+Inv-loop s task machine release resources₀ starts₀ finishes₀ used job standing rows₀ count₀ arrived₀ cost₀ total i₀ resources starts finishes rows count arrived cost i =
+    Gathered s job (standing .machines) (standing .finishes) task machine release resources₀ starts₀ finishes₀ used resources starts finishes rows count arrived cost i
+
+abbrev μ-loop : tie.MeasureT-loop
+μ-loop s task machine release resources₀ starts₀ finishes₀ used job standing rows₀ count₀ arrived₀ cost₀ total i₀ resources starts finishes rows count arrived cost i =
+    total - i
+
+all-messages : (c : tie.Start Inv-loop μ-loop) → length (c .args .t2 .messages) ≡ most-messages
+all-messages c = search length-mapped
+
+abbrev none : Message
+none = record { sender = 0; receiver = 0; volume = 0 }
+
+blank-requires : tie.Need-blank-requires Inv-loop μ-loop
+blank-requires c κs = tt
+
+loop-holds : tie.Need-loop-holds Inv-loop μ-loop
+loop-holds c = gathered-none (c .before .pre) _ refl
+
+mul-msg : tie.Need-mul-msg Inv-loop μ-loop
+mul-msg c = omega arith
+
+element-copy-out-msg : tie.Need-element-copy-out-msg Inv-loop μ-loop
+element-copy-out-msg c = omega arith
+
+add-i : tie.Need-add-i Inv-loop μ-loop
+add-i c = omega arith
+
+loop-less : tie.Need-loop-less Inv-loop μ-loop
+loop-less c = omega arith
+
+loop-again : tie.Need-loop-again Inv-loop μ-loop
+loop-again c =
+    let at = c .before .before .before .before in
+    let start = at .before .before in
+    let msg = getD (start .args .t2 .messages) (at .loop .i) none in
+    rw (add-one (at .loop .i)) (gathered-other (start .pre) (at .loop .inv) (c .before .before .before .loop-test .taken) (all-messages start) none (c .if1 .taken))
+
+sub-sender : tie.Need-sub-sender Inv-loop μ-loop
+sub-sender c =
+    let at = c .before .before .before .before .before in
+    let start = at .before .before in
+    let msg = getD (start .args .t2 .messages) (at .loop .i) none in
+    sender-listed (start .pre) (at .loop .inv) (c .before .before .before .before .loop-test .taken) (all-messages start) none .0
+
+mul-a : tie.Need-mul-a Inv-loop μ-loop
+mul-a c =
+    let at = c .before .before .before .before .before in
+    let start = at .before .before in
+    let msg = getD (start .args .t2 .messages) (at .loop .i) none in
+    let range = sender-listed (start .pre) (at .loop .inv) (c .before .before .before .before .loop-test .taken) (all-messages start) none in
+    omega arith
+
+element-copy-out-a : tie.Need-element-copy-out-a Inv-loop μ-loop
+element-copy-out-a c =
+    let at = c .before .before .before .before .before in
+    let start = at .before .before in
+    let msg = getD (start .args .t2 .messages) (at .loop .i) none in
+    let range = sender-listed (start .pre) (at .loop .inv) (c .before .before .before .before .loop-test .taken) (all-messages start) none in
+    omega arith
+
+mul-done : tie.Need-mul-done Inv-loop μ-loop
+mul-done c =
+    let at = c .before .before .before .before .before .before in
+    let start = at .before .before in
+    let msg = getD (start .args .t2 .messages) (at .loop .i) none in
+    let range = sender-listed (start .pre) (at .loop .inv) (c .before .before .before .before .before .loop-test .taken) (all-messages start) none in
+    omega arith
+
+element-copy-out-done : tie.Need-element-copy-out-done Inv-loop μ-loop
+element-copy-out-done c =
+    let at = c .before .before .before .before .before .before in
+    let start = at .before .before in
+    let msg = getD (start .args .t2 .messages) (at .loop .i) none in
+    let range = sender-listed (start .pre) (at .loop .inv) (c .before .before .before .before .before .loop-test .taken) (all-messages start) none in
+    omega arith
+
+later-requires : tie.Need-later-requires Inv-loop μ-loop
+later-requires c κs = tt
+
+loop-less-2 : tie.Need-loop-less-2 Inv-loop μ-loop
+loop-less-2 c = omega arith
+
+loop-again-2 : tie.Need-loop-again-2 Inv-loop μ-loop
+loop-again-2 c =
+    let at = c .before .before .before .before .before .before .before .before .before in
+    let start = at .before .before in
+    let msg = getD (start .args .t2 .messages) (at .loop .i) none in
+    rw
+    (c .later .ensures, add-one (at .loop .i))
+    (gathered-without (start .pre) (at .loop .inv) (c .before .before .before .before .before .before .before .before .loop-test .taken) (all-messages start) none (c .before .before .before .before .before .if1 .left) (crosses-together msg _ _ (c .before .if2 .taken)))
+
+later-requires-2 : tie.Need-later-requires-2 Inv-loop μ-loop
+later-requires-2 c κs = tt
+
+loop-less-3 : tie.Need-loop-less-3 Inv-loop μ-loop
+loop-less-3 c = omega arith
+
+loop-again-3 : tie.Need-loop-again-3 Inv-loop μ-loop
+loop-again-3 c =
+    let at = c .before .before .before .before .before .before .before .before .before .before .before in
+    let start = at .before .before in
+    let msg = getD (start .args .t2 .messages) (at .loop .i) none in
+    rw
+    (c .later2 .ensures, add-one (at .loop .i))
+    (gathered-without (start .pre) (at .loop .inv) (c .before .before .before .before .before .before .before .before .before .before .loop-test .taken) (all-messages start) none (c .before .before .before .before .before .before .before .if1 .left) (crosses-empty msg _ _ (c .before .before .before .if2 .left) (c .before .if3 .taken)))
+
+add-try-message : tie.Need-add-try-message Inv-loop μ-loop
+add-try-message c = omega arith
+
+try-message-requires : tie.Need-try-message-requires Inv-loop μ-loop
+try-message-requires c κs =
+    let at = c .before .before .before .before .before .before .before .before .before .before .before .before .before in
+    let start = at .before .before in
+    let msg = getD (start .args .t2 .messages) (at .loop .i) none in
+    ask-input (start .pre) (at .loop .inv) (c .before .before .before .before .before .before .before .before .before .before .before .before .loop-test .taken) (all-messages start) none (c .before .before .before .before .before .before .before .before .before .if1 .left) (crosses-apart msg _ _ (c .before .before .before .before .before .if2 .left) (c .before .before .before .if3 .left))
+
+add-put : tie.Need-add-put Inv-loop μ-loop
+add-put c = omega arith
+
+put-requires : tie.Need-put-requires Inv-loop μ-loop
+put-requires c κs =
+    let at = c .before .before .before .before .before .before .before .before .before .before .before .before .before .before .before .before .before in
+    let start = at .before .before in
+    let msg = getD (start .args .t2 .messages) (at .loop .i) none in
+    let fit = input-fits (start .pre) (at .loop .inv) (c .before .before .before .before .before .before .before .before .before .before .before .before .before .before .before .before .loop-test .taken) (all-messages start) none (c .before .before .before .before .before .before .before .before .before .before .before .before .before .if1 .left) (crosses-apart msg _ _ (c .before .before .before .before .before .before .before .before .before .if2 .left) (c .before .before .before .before .before .before .before .if3 .left)) _ (c .before .before .before .try-message .ensures) in
+    (fit .0, fit .1)
+
+mul-rows : tie.Need-mul-rows Inv-loop μ-loop
+mul-rows c =
+    let at = c .before .before .before .before .before .before .before .before .before .before .before .before .before .before .before .before .before .before in
+    let start = at .before .before in
+    let msg = getD (start .args .t2 .messages) (at .loop .i) none in
+    let fit = input-fits (start .pre) (at .loop .inv) (c .before .before .before .before .before .before .before .before .before .before .before .before .before .before .before .before .before .loop-test .taken) (all-messages start) none (c .before .before .before .before .before .before .before .before .before .before .before .before .before .before .if1 .left) (crosses-apart msg _ _ (c .before .before .before .before .before .before .before .before .before .before .if2 .left) (c .before .before .before .before .before .before .before .before .if3 .left)) _ (c .before .before .before .before .try-message .ensures) in
+    let few = fit .2 in
+    omega arith
+
+array-set-from-rows : tie.Need-array-set-from-rows Inv-loop μ-loop
+array-set-from-rows c =
+    let at = c .before .before .before .before .before .before .before .before .before .before .before .before .before .before .before .before .before .before in
+    let start = at .before .before in
+    let msg = getD (start .args .t2 .messages) (at .loop .i) none in
+    let fit = input-fits (start .pre) (at .loop .inv) (c .before .before .before .before .before .before .before .before .before .before .before .before .before .before .before .before .before .loop-test .taken) (all-messages start) none (c .before .before .before .before .before .before .before .before .before .before .before .before .before .before .if1 .left) (crosses-apart msg _ _ (c .before .before .before .before .before .before .before .before .before .before .if2 .left) (c .before .before .before .before .before .before .before .before .if3 .left)) _ (c .before .before .before .before .try-message .ensures) in
+    let few = fit .2 in
+    omega arith
+
+later-requires-3 : tie.Need-later-requires-3 Inv-loop μ-loop
+later-requires-3 c κs = tt
+
+add-cost : tie.Need-add-cost Inv-loop μ-loop
+add-cost c =
+    let at = c .before .before .before .before .before .before .before .before .before .before .before .before .before .before .before .before .before .before .before .before in
+    let start = at .before .before in
+    let msg = getD (start .args .t2 .messages) (at .loop .i) none in
+    let fit = input-fits (start .pre) (at .loop .inv) (c .before .before .before .before .before .before .before .before .before .before .before .before .before .before .before .before .before .before .before .loop-test .taken) (all-messages start) none (c .before .before .before .before .before .before .before .before .before .before .before .before .before .before .before .before .if1 .left) (crosses-apart msg _ _ (c .before .before .before .before .before .before .before .before .before .before .before .before .if2 .left) (c .before .before .before .before .before .before .before .before .before .before .if3 .left)) _ (c .before .before .before .before .before .before .try-message .ensures) in
+    let few = fit .2 in
+    let spent = fit .3 in
+    omega arith
+
+add-count : tie.Need-add-count Inv-loop μ-loop
+add-count c =
+    let at = c .before .before .before .before .before .before .before .before .before .before .before .before .before .before .before .before .before .before .before .before in
+    let start = at .before .before in
+    let msg = getD (start .args .t2 .messages) (at .loop .i) none in
+    let fit = input-fits (start .pre) (at .loop .inv) (c .before .before .before .before .before .before .before .before .before .before .before .before .before .before .before .before .before .before .before .loop-test .taken) (all-messages start) none (c .before .before .before .before .before .before .before .before .before .before .before .before .before .before .before .before .if1 .left) (crosses-apart msg _ _ (c .before .before .before .before .before .before .before .before .before .before .before .before .if2 .left) (c .before .before .before .before .before .before .before .before .before .before .if3 .left)) _ (c .before .before .before .before .before .before .try-message .ensures) in
+    let few = fit .2 in
+    let spent = fit .3 in
+    omega arith
+
+loop-less-4 : tie.Need-loop-less-4 Inv-loop μ-loop
+loop-less-4 c = omega arith
+
+loop-again-4 : tie.Need-loop-again-4 Inv-loop μ-loop
+loop-again-4 c =
+    let at = c .before .before .before .before .before .before .before .before .before .before .before .before .before .before .before .before .before .before .before .before in
+    let start = at .before .before in
+    let msg = getD (start .args .t2 .messages) (at .loop .i) none in
+    rw
+    (c .before .later3 .ensures, add-one (at .loop .i), add-one (at .loop .count), c .before .before .put .ensures .0, c .before .before .put .ensures .1 .0, c .before .before .put .ensures .1 .1)
+    (gathered-with (start .pre) (at .loop .inv) (c .before .before .before .before .before .before .before .before .before .before .before .before .before .before .before .before .before .before .before .loop-test .taken) (all-messages start) none (c .before .before .before .before .before .before .before .before .before .before .before .before .before .before .before .before .if1 .left) (crosses-apart msg _ _ (c .before .before .before .before .before .before .before .before .before .before .before .before .if2 .left) (c .before .before .before .before .before .before .before .before .before .before .if3 .left)) _ (c .before .before .before .before .before .before .try-message .ensures))
+
+returns : tie.Need-returns Inv-loop μ-loop
+returns c = gathered-all (c .before .before .before .pre) (c .before .loop .inv) (c .loop-test .left)
+
+pub try-messages-spec : {M : Type 1} → statement M
+try-messages-spec =
+    tie.close
+    (tie.spec
+    Inv-loop
+    μ-loop
+    blank-requires
+    loop-holds
+    mul-msg
+    element-copy-out-msg
+    add-i
+    loop-less
+    loop-again
+    sub-sender
+    mul-a
+    element-copy-out-a
+    mul-done
+    element-copy-out-done
+    later-requires
+    loop-less-2
+    loop-again-2
+    later-requires-2
+    loop-less-3
+    loop-again-3
+    add-try-message
+    try-message-requires
+    add-put
+    put-requires
+    mul-rows
+    array-set-from-rows
+    later-requires-3
+    add-cost
+    add-count
+    loop-less-4
+    loop-again-4
+    returns)

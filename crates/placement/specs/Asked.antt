@@ -1,0 +1,78 @@
+-- What each function asks of its caller, and how code's values stand for those of the rules.
+use mathlib.Core.Path.{_≡_}
+use mathlib.Core.Bool.{true}
+use mathlib.Core.List.{List, List·Memᴰ}
+use mathlib.Core.Option.{Option, none, some}
+use Prim.Native.Nat.{ℕ, zero, suc, _-_, _≤_, _<_}
+use lib.Dec.{ltb}
+use lib.ListN.{length, getD}
+use Rattle.rules.specs.declared.Holder.{Holder}
+use Rattle.rules.specs.declared.Holder.the-variants.{TaskOn, MessageOn}
+use Rattle.rules.specs.declared.Row.{Row}
+use Rattle.rules.specs.declared.Message.{Message}
+use Rattle.rules.specs.declared.Job.{Job}
+use Rattle.rules.specs.declared.Setup.{Setup}
+use Rattle.rules.specs.Words.{HasMachine, HasLink, most-tasks, most-messages, largest-time, largest-volume, horizon, row-limit, task-of}
+use Rattle.rules.specs.Placing.{placed, task-row, machine-for, no-row}
+use Rattle.rules.specs.Laws.{IsTask, EndsListed}
+use Rattle.rules.specs.Bounds.{Sound}
+use Rattle.placement.specs.Columns.{tick-bound, Widths}
+
+-- Rows.
+
+pub record AskTransfer (s : Setup) (msg : Message) (a b : ℕ) : Type 0 where
+  pub sound : Sound s
+  pub ends : HasLink a b
+  pub volume : msg .volume ≤ largest-volume
+
+pub record AskTaskRow (s : Setup) (m run start : ℕ) : Type 0 where
+  pub sound : Sound s
+  pub there : HasMachine m
+  pub run-at-most : run ≤ largest-time
+  pub start-below : start < tick-bound
+
+pub record AskMessageRow (s : Setup) (msg : Message) (a b start : ℕ) : Type 0 where
+  pub moves : AskTransfer s msg a b
+  pub start-below : start < tick-bound
+
+-- Columns.
+
+-- the machines of a holder are within what a table has room for
+pub data Numbered : Holder → Type 0 where
+  on-machine : {m t : ℕ} → HasMachine m → Numbered (TaskOn m t)
+  on-link : {a b x y : ℕ} → HasLink a b → Numbered (MessageOn a b x y)
+
+pub record AskFill (rows : List Row) (count : ℕ) (resources starts finishes : List ℕ) : Type 0 where
+  pub count-at-most : count ≤ row-limit
+  pub numbered : (i : ℕ) → i < count → Numbered (getD rows i no-row .holder)
+  pub widths : Widths resources starts finishes
+
+-- The order of tasks.
+
+-- the counts are in range, and messages go between tasks of the job
+pub record AskOrder (j : Job) : Type 0 where
+  pub tasks : j .taskcount ≤ most-tasks
+  pub messages : j .messagecount ≤ most-messages
+  pub ends : EndsListed j
+
+pub record AskTask (j : Job) (t : ℕ) : Type 0 where
+  pub order : AskOrder j
+  pub listed : IsTask j t
+
+pub record AskRelease (j : Job) (clock t : ℕ) : Type 0 where
+  pub order : AskOrder j
+  pub listed : IsTask j t
+  pub clock-at-most : clock ≤ horizon
+  pub scheduling : j .scheduling ≤ largest-time
+  pub dispatches : (k : ℕ) → IsTask j k → task-of j k .dispatch ≤ largest-time
+
+-- what a Standing says of the rows booked so far
+pub record Stands (new : List Row) (machines finishes : List ℕ) : Type 0 where
+  pub placed-is : (t : ℕ) → 1 ≤ t → t ≤ most-tasks → placed new t ≡ ltb 0 (getD machines (t - 1) 0)
+  pub machine-is : (t : ℕ) → 1 ≤ t → t ≤ most-tasks → placed new t ≡ true → machine-for new t ≡ getD machines (t - 1) 0
+  pub finish-is : (t : ℕ) → 1 ≤ t → t ≤ most-tasks → placed new t ≡ true → task-row new t .finish ≡ getD finishes (t - 1) 0
+
+-- the number 0 says that no task is ready
+abbrev pub next-of : ℕ → Option ℕ
+next-of zero = none
+next-of (suc t) = some (suc t)

@@ -1,0 +1,75 @@
+// Rows as columns of numbers, which a search reads: resource, start and finish.
+use crate::HELD;
+use crate::SPANS;
+use rules::Holder;
+use rules::MACHINES;
+use rules::Row;
+ghost use mathlib.Core.Path.{_≡_};
+ghost use Prim.Native.Nat.{_<_};
+ghost use lib.ListN.{take, set};
+ghost use Rattle.rules.specs.Words.{link, held-by, resource, HasLink};
+ghost use Rattle.placement.specs.Columns.{key, room, Mirrors, Widths};
+ghost use Rattle.placement.specs.Asked.{Numbered, AskFill};
+
+// The number of the link from machine a to machine b, past those of the machines.
+pub fn link_key(a: u64, b: u64) -> u64
+    requires { ⌜ HasLink a b ⌝ }
+    ensures { λ r. ⌜ r ≡ key (link a b) ⌝ }
+{
+    a * ((MACHINES + 1) as u64) + b
+}
+
+// The number of what a row books.
+pub fn holder_key(h: Holder) -> u64
+    requires { ⌜ Numbered h ⌝ }
+    ensures { λ r. ⌜ r ≡ key (held-by h) ⌝ }
+{
+    match h {
+        Holder::TaskOn { machine, task: _ } => machine,
+        Holder::MessageOn {
+            source,
+            target,
+            sender: _,
+            receiver: _,
+        } => link_key(source, target),
+    }
+}
+
+// A row's entry in the columns.
+pub fn put<'a>(
+    row: Row,
+    at: usize,
+    resources: &'a mut [u64; SPANS],
+    starts: &'a mut [u64; SPANS],
+    finishes: &'a mut [u64; SPANS],
+)
+    requires { ⌜ (at < room) × Numbered (row .holder) ⌝ }
+    ensures { λ _. ⌜ now (resources .exit) ≡ set (now (resources .entry)) at (key (resource row)) ⌝ }
+    ensures { λ _. ⌜ now (starts .exit) ≡ set (now (starts .entry)) at (row .start) ⌝ }
+    ensures { λ _. ⌜ now (finishes .exit) ≡ set (now (finishes .entry)) at (row .finish) ⌝ }
+{
+    let holder = row.holder;
+    resources[at] = holder_key(holder);
+    starts[at] = row.start;
+    finishes[at] = row.finish;
+}
+
+// The columns of the held rows.
+pub fn fill<'a>(
+    rows: [Row; HELD],
+    count: usize,
+    resources: &'a mut [u64; SPANS],
+    starts: &'a mut [u64; SPANS],
+    finishes: &'a mut [u64; SPANS],
+)
+    requires { ⌜ AskFill rows count (now resources) (now starts) (now finishes) ⌝ }
+    ensures { λ _. ⌜ Widths (now (resources .exit)) (now (starts .exit)) (now (finishes .exit)) ⌝ }
+    ensures { λ _. ⌜ Mirrors (take count rows) (now (resources .exit)) (now (starts .exit)) (now (finishes .exit)) count ⌝ }
+{
+    let mut i: usize = 0;
+    while i < count {
+        let row = rows[i];
+        put(row, i, resources, starts, finishes);
+        i += 1;
+    }
+}

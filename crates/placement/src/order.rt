@@ -1,0 +1,77 @@
+// The order of the tasks: which is ready, which is next, and when it may start.
+use crate::Standing;
+use rules::Job;
+ghost use mathlib.Core.Path.{_≡_};
+ghost use mathlib.Core.List.{List};
+ghost use Prim.Native.Nat.{_≤_};
+ghost use Rattle.rules.specs.declared.Row.{Row};
+ghost use Rattle.rules.specs.Placing.{ready, next-task, release};
+ghost use Rattle.placement.specs.Asked.{AskOrder, AskTask, AskRelease, Stands, next-of};
+
+// The senders of all messages into the task are placed, and the task is not.
+pub fn is_ready(job: Job, standing: Standing, task: u64) -> bool
+    requires { ⌜ AskTask job task ⌝ }
+    ensures { λ r. ⌜ ((new : List Row) → Stands new (standing .machines) (standing .finishes) → r ≡ ready job new task) ⌝ }
+{
+    let own = (task - 1) as usize;
+    if standing.machines[own] != 0 {
+        return false;
+    }
+    let count = job.messagecount as usize;
+    let mut i: usize = 0;
+    while i < count {
+        let msg = job.messages[i];
+        i += 1;
+        if msg.receiver != task {
+            continue;
+        }
+        let sender = (msg.sender - 1) as usize;
+        if standing.machines[sender] == 0 {
+            return false;
+        }
+    }
+    true
+}
+
+// Of the tasks that are ready the one with the earliest deadline, then the lowest number; 0 if none is.
+pub fn next_ready(job: Job, standing: Standing) -> u64
+    requires { ⌜ AskOrder job ⌝ }
+    ensures { λ r. ⌜ ((new : List Row) → Stands new (standing .machines) (standing .finishes) → next-of r ≡ next-task job new) ⌝ }
+{
+    let mut best: u64 = 0;
+    let mut deadline: u64 = 0;
+    let mut t: u64 = 0;
+    while t < job.taskcount {
+        let its = job.tasks[t as usize].deadline;
+        t += 1;
+        if !is_ready(job, standing, t) {
+            continue;
+        }
+        if best != 0 && deadline <= its {
+            continue;
+        }
+        best = t;
+        deadline = its;
+    }
+    best
+}
+
+// 01's floor: the clock, the scheduling time, and the dispatch times of the tasks placed so far and of this one.
+pub fn release_time(job: Job, standing: Standing, clock: u64, task: u64) -> u64
+    requires { ⌜ AskRelease job clock task ⌝ }
+    ensures { λ r. ⌜ ((new : List Row) → Stands new (standing .machines) (standing .finishes) → r ≡ release clock job new task) ⌝ }
+    ensures { λ r. ⌜ r ≤ 1_020_000_000 ⌝ }
+{
+    let mut sum: u64 = 0;
+    let mut t: u64 = 0;
+    while t < job.taskcount {
+        let at = t as usize;
+        t += 1;
+        if standing.machines[at] == 0 {
+            continue;
+        }
+        sum += job.tasks[at].dispatch;
+    }
+    let own = (task - 1) as usize;
+    clock + job.scheduling + sum + job.tasks[own].dispatch
+}

@@ -1,0 +1,115 @@
+// A whole job placed, task by task.
+use crate::Attempt;
+use crate::HELD;
+use crate::OWN;
+use crate::SPANS;
+use crate::Standing;
+use crate::choice::choose;
+use crate::columns::fill;
+use crate::columns::put;
+use crate::order::next_ready;
+use crate::order::release_time;
+use crate::trial::blank;
+use rules::Job;
+use rules::Row;
+use rules::Setup;
+use rules::TASKS;
+ghost use mathlib.Core.Path.{_≡_};
+ghost use Rattle.placement.specs.Placements.{AskAppend, Appended, AskPlace, PlacementIs, none-placed};
+
+// A job's rows, how many and their cost; or the task that has no good trial at its turn.
+pub struct Placement {
+    pub late: u64,
+    pub count: usize,
+    pub cost: u64,
+    pub rows: [Row; OWN],
+}
+
+// No rows, and no task that is late or the one given.
+fn without_rows(task: u64) -> Placement
+    ensures { λ r. ⌜ r ≡ none-placed task ⌝ }
+{
+    let rows = [blank(); OWN];
+    Placement {
+        late: task,
+        count: 0,
+        cost: 0,
+        rows: rows,
+    }
+}
+
+// The rows of a trial that is kept, behind those of the job so far, and their spans behind those used.
+fn append<'a>(
+    own: Placement,
+    tried: Attempt,
+    resources: &'a mut [u64; SPANS],
+    starts: &'a mut [u64; SPANS],
+    finishes: &'a mut [u64; SPANS],
+    used: usize,
+) -> Placement
+    requires { ⌜ AskAppend own tried (now resources) (now starts) (now finishes) used ⌝ }
+    ensures { λ r. ⌜ Appended own tried (now (resources .entry)) (now (starts .entry)) (now (finishes .entry)) used (now (resources .exit)) (now (starts .exit)) (now (finishes .exit)) r ⌝ }
+{
+    let mut rows = own.rows;
+    let first = own.count;
+    let more = tried.count;
+    let mut i: usize = 0;
+    while i < more {
+        let row = tried.rows[i];
+        rows[first + i] = row;
+        put(row, used + i, resources, starts, finishes);
+        i += 1;
+    }
+    Placement {
+        late: 0,
+        count: first + more,
+        cost: own.cost + tried.cost,
+        rows: rows,
+    }
+}
+
+// DRCD: one turn for each task, the next that is ready on the machine of the best trial.
+pub fn place(s: Setup, clock: u64, held: [Row; HELD], count: usize, job: Job) -> Placement
+    requires { ⌜ AskPlace s clock held count job ⌝ }
+    ensures { λ r. ⌜ PlacementIs s clock held count job r ⌝ }
+{
+    let mut resources = [0u64; SPANS];
+    let mut starts = [0u64; SPANS];
+    let mut finishes = [0u64; SPANS];
+    fill(held, count, &mut resources, &mut starts, &mut finishes);
+    let mut standing = Standing {
+        machines: [0; TASKS],
+        finishes: [0; TASKS],
+    };
+    let mut own = without_rows(0);
+    let mut turn: u64 = 0;
+    while turn < job.taskcount {
+        let task = next_ready(job, standing);
+        if task == 0 {
+            return own;
+        }
+        let release = release_time(job, standing, clock, task);
+        let used = count + own.count;
+        let kept = choose(
+            s,
+            job,
+            standing,
+            task,
+            release,
+            &mut resources,
+            &mut starts,
+            &mut finishes,
+            used,
+        );
+        if !kept.found {
+            return without_rows(task);
+        }
+        let best = kept.best;
+        own = append(own, best, &mut resources, &mut starts, &mut finishes, used);
+        let at = (task - 1) as usize;
+        standing.machines[at] = kept.machine;
+        standing.finishes[at] = best.finish;
+        turn += 1;
+    }
+    own
+}

@@ -5,6 +5,7 @@ pub mod Figures
 pub mod Foremost
 pub mod Tasks
 pub mod Gathering
+pub mod Crossings
 pub mod Gathered
 pub mod Attempts
 pub mod Chosen

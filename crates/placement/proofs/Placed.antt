@@ -58,7 +58,7 @@ unfolding machine-of
 listed-machine (task m t) = m
 listed-machine (message a b x y) = a
 
-costs-at-most : (s : Setup) (rows : List Row) → ((row : Row) → List·Memᴰ row rows → RowInRange s row) → costs rows ≤ length rows * largest-cost
+pub costs-at-most : (s : Setup) (rows : List Row) → ((row : Row) → List·Memᴰ row rows → RowInRange s row) → costs rows ≤ length rows * largest-cost
 costs-at-most s [] h = omega arith
 costs-at-most s (row ∷ rows) h =
     let here = h row (List·Memᴰ·head refl) .cost in

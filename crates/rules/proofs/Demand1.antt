@@ -96,7 +96,7 @@ demand-1 s st (moves tick) = record {
 }
 
 -- the machines looked for are those numbered 1 to the table's count
-machine-listed : (s : Setup) (m : ℕ) → (any-of (eqb m) (machines s) ≡ true) ↔ ((1 ≤ m) × (m ≤ s .table .machines))
+pub machine-listed : (s : Setup) (m : ℕ) → (any-of (eqb m) (machines s) ≡ true) ↔ ((1 ≤ m) × (m ≤ s .table .machines))
 machine-listed s m = (
   λ e.
       let w = any-witness (eqb m) (machines s) e in

@@ -9,7 +9,8 @@ use Rattle.rules.specs.declared.Message.{Message}
 use Rattle.rules.specs.Words.{most-messages, most-tasks}
 use Rattle.placement.proofs.Tasks.{length-mapped}
 use Rattle.placement.proofs.Gathered.{Gathered, gathered-none, gathered-other, gathered-without, gathered-with, gathered-all}
-use Rattle.placement.proofs.Gathered.{sender-listed, ask-input, input-fits, crosses-apart, crosses-together, crosses-empty}
+use Rattle.placement.proofs.Gathered.{sender-listed, ask-input, input-fits}
+use Rattle.placement.proofs.Crossings.{crosses-apart, crosses-together, crosses-empty}
 use Rattle.placement.proofs.trial.try_messages.Statement.{statement}
 use Rattle.placement.proofs.trial.try_messages.Tie as tie
 

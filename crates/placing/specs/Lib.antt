@@ -1,0 +1,2 @@
+-- The jobs that the program places.
+pub mod Jobs

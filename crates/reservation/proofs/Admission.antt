@@ -1,0 +1,86 @@
+-- Admitting a job: its rows go into the slots after the held ones, one after the other.
+use mathlib.Core.Path.{_≡_, refl, sym, ap, ap₂, _∙_, subst}
+use mathlib.Core.List.{List, [], _∷_, _++_, append-nil, append-assoc, List·Memᴰ}
+use Prim.Native.Nat.{ℕ, suc, _+_, _*_, _-_, _^_, _≤_, _<_}
+use native.Mathlib.Omega.{arith}
+use native.Mathlib.Nat.{add-suc, add-zero}
+use lib.ListN.{length, getD, take, set, length-set, length-take}
+use lib.Seq.{take-suc, take-suc-set, getD-set-other, length-take-le}
+use Rattle.rules.specs.declared.Row.{Row}
+use Rattle.rules.specs.declared.Setup.{Setup}
+use Rattle.rules.specs.declared.Job.{Job}
+use Rattle.rules.specs.Words.{State, row-limit}
+use Rattle.rules.specs.Placing.{no-row, costs}
+use Rattle.rules.specs.Withdrawing.{admit}
+use Rattle.rules.specs.Bounds.{Bounded, RowInRange, largest-cost}
+use Rattle.placement.specs.Placements.{most-own}
+use Rattle.placement.specs.declared.place.Placement.{Placement}
+use Rattle.placement.proofs.Placed.{costs-at-most}
+use Rattle.reservation.specs.declared.Register.{Register}
+use Rattle.reservation.specs.Registers.{state-of, register-of, Valid}
+use Rattle.reservation.specs.Calls.{AskAdmit, Admits}
+
+-- after i rows
+pub record Filling (r : Register) (found : Placement) (rows : List Row) (i : ℕ) : Type 0 where
+  pub within : i ≤ found .count
+  pub long : length rows ≡ row-limit
+  pub rows-are : take (r .count + i) rows ≡ take (r .count) (r .rows) ++ take i (found .rows)
+  pub blank : (k : ℕ) → r .count + i ≤ k → k < row-limit → getD rows k no-row ≡ no-row
+
+module _ {r : Register} {found : Placement} (ask : AskAdmit r found) where
+  pub filling-none : Filling r found (r .rows) 0
+  filling-none =
+      let none-more : r .count + 0 ≡ r .count = omega arith in
+      record {
+        within = omega arith;
+        long = ask .valid .long;
+        rows-are = rw (none-more, append-nil (take (r .count) (r .rows))) refl;
+        blank = λ k h b. ask .valid .blank k (omega arith) b;
+      }
+
+  pub filling-more :
+      {rows : List Row} {i : ℕ} → Filling r found rows i → i < found .count → (row : Row) → row ≡ getD (found .rows) i no-row →
+      Filling r found (set rows (r .count + i) row) (suc i)
+  filling-more {rows} {i} f h row is =
+      let long = f .long in
+      let own-long = ask .found-long in
+      let few = ask .found-at-most in
+      let fit = ask .fits in
+      record {
+        within = h;
+        long = length-set rows (r .count + i) row ∙ long;
+        rows-are =
+            rw (add-suc (r .count) i)
+            (take-suc-set rows (r .count + i) row (omega arith)
+            ∙ ap₂ (λ a b. a ++ (b ∷ [])) (f .rows-are) is
+            ∙ append-assoc (take (r .count) (r .rows)) (take i (found .rows)) (getD (found .rows) i no-row ∷ [])
+            ∙ ap (λ l. take (r .count) (r .rows) ++ l) (sym (take-suc (found .rows) i no-row (omega arith))));
+        blank = λ k a b. getD-set-other rows (r .count + i) k row no-row (omega arith) ∙ f .blank k (omega arith) b;
+      }
+
+  -- the total of at most 256 rows stays far below what a word holds
+  pub total-fits : r .total + found .cost < 2 ^ 63
+  total-fits =
+      let bounded = ask .valid .bounded in
+      let all = costs-at-most (r .setup) (take (r .count) (r .rows)) (bounded .rows) in
+      let is = bounded .total in
+      let few = bounded .count in
+      let more = ask .cost-at-most in
+      omega arith
+
+  pub filled :
+      {rows : List Row} {i : ℕ} → Filling r found rows i → found .count ≤ i →
+      Admits r found (record { setup = r .setup; clock = r .clock; count = r .count + found .count; rows = rows; total = r .total + found .cost })
+  filled {rows} {i} f h =
+      let within = f .within in
+      let all : i ≡ found .count = omega arith in
+      let done = subst (Filling r found rows) all f in
+      record {
+        setup-is = refl;
+        clock-is = refl;
+        count-is = refl;
+        total-is = refl;
+        long = done .long;
+        rows-are = done .rows-are;
+        blank = done .blank;
+      }

@@ -1,0 +1,106 @@
+-- The answer to a submission, by the first test that refuses, and what the register is left as.
+use mathlib.Core.Path.{_≡_, refl, sym, ap, ap₂, _∙_}
+use mathlib.Core.Bool.{Bool, true, false, cond}
+use mathlib.Core.List.{List, [], _∷_}
+use mathlib.Core.Option.{Option, none, some}
+use Prim.Native.Nat.{ℕ, _+_, _<_, _≤_}
+use native.Mathlib.Omega.{arith}
+use lib.Dec.{ltb}
+use lib.ListN.{length}
+use borrow.Author.Tests.{lt-ltb, eq-eqb, ne-eqb}
+use Rattle.rules.specs.declared.Row.{Row}
+use Rattle.rules.specs.declared.Job.{Job}
+use Rattle.rules.specs.declared.Setup.{Setup}
+use Rattle.rules.specs.declared.Answer.{Answer}
+use Rattle.rules.specs.Words.{State, View, view, row-limit, largest-number}
+use Rattle.rules.specs.Placing.{costs, Placing, booked, late}
+use Rattle.rules.specs.Withdrawing.{admit}
+use Rattle.rules.specs.Refusals.{Test, refuse-if, outside, refusal, judged, miscounted, out-of-range, bad-messages, first-infeasible, missed, found, placing, submit-tests, submit-answer, Call, submits, settle, step, accepted}
+use Rattle.rules.specs.Demands.{InRange, NoRefusal, end, passes}
+use Rattle.rules.proofs.Demand1.{submit-answered}
+use Rattle.rules.proofs.Admitted.{Admitted, admits}
+
+-- test n is the first that refuses, and names task t
+pub data First (n t : ℕ) : List Test → Type 0 where
+  here : {test : Test} {tests : List Test} → test .number ≡ n → test .refuses ≡ some t → First n t (test ∷ tests)
+  later : {test : Test} {tests : List Test} → test .refuses ≡ none → First n t tests → First n t (test ∷ tests)
+
+by-refusal : Answer → ℕ → Option ℕ → Answer
+by-refusal rest n o = elim o [ none ↦ rest | some t ↦ refusal n t ]
+
+pub judged-first : (passed : Answer) {n t : ℕ} {tests : List Test} → First n t tests → judged passed tests ≡ refusal n t
+unfolding judged by-refusal
+judged-first passed {n} {t} (here {test = test} {tests = tests} e h) =
+    ap (by-refusal (judged passed tests) (test .number)) h ∙ ap (λ k. refusal k t) e
+judged-first passed (later {test = test} {tests = tests} h rest) =
+    ap (by-refusal (judged passed tests) (test .number)) h ∙ judged-first passed rest
+
+-- no test refuses
+pub judged-none : (passed : Answer) {tests : List Test} → NoRefusal tests → judged passed tests ≡ passed
+unfolding judged by-refusal
+judged-none passed end = refl
+judged-none passed (passes {test = test} {tests = tests} h rest) = ap (by-refusal (judged passed tests) (test .number)) h ∙ judged-none passed rest
+
+pub first-answers : (s : Setup) (v : View) (j : Job) {n t : ℕ} → First n t (submit-tests s v j) → submit-answer s v j ≡ refusal n t
+unfolding submit-answer
+first-answers s v j f = judged-first _ f
+
+-- none of 1 to 5 refuses, so that 6, 7 or 8 may be the first
+module _ (s : Setup) (v : View) (j : Job) (range : InRange s j) (free : v .held (j .number) ≡ false) where
+  past-five :
+      {n t : ℕ} →
+      First
+      n
+      t
+      (record { number = 6; refuses = first-infeasible s (v .clock) j }
+      ∷ record { number = 7; refuses = missed (placing s v j) }
+      ∷ record { number = 8; refuses = refuse-if (ltb row-limit (length (v .rows) + length (found (placing s v j)))) }
+      ∷ []) →
+      First n t (submit-tests s v j)
+  unfolding submit-tests
+  past-five f =
+      later
+      (ap refuse-if (range .number))
+      (later (ap refuse-if (range .counts)) (later (ap refuse-if (range .figures)) (later (ap refuse-if (range .messages)) (later (ap refuse-if free) f))))
+
+  pub answer-6 : {t : ℕ} → first-infeasible s (v .clock) j ≡ some t → submit-answer s v j ≡ refusal 6 t
+  answer-6 e = first-answers s v j (past-five (here refl e))
+
+  module _ (feasible : first-infeasible s (v .clock) j ≡ none) where
+    pub answer-7 : {t : ℕ} → placing s v j ≡ late t → submit-answer s v j ≡ refusal 7 t
+    unfolding missed
+    answer-7 e = first-answers s v j (past-five (later feasible (here refl (ap missed e))))
+
+    module _ (rows : List Row) (is-placed : placing s v j ≡ booked rows) where
+      pub answer-8 : row-limit < length (v .rows) + length rows → submit-answer s v j ≡ refusal 8 0
+      unfolding missed found
+      answer-8 h =
+          let over : ltb row-limit (length (v .rows) + length (found (placing s v j))) ≡ true
+          = rw is-placed (lt-ltb row-limit (length (v .rows) + length rows) h) in
+          first-answers s v j (past-five (later feasible (later (ap missed is-placed) (here refl (ap refuse-if over)))))
+
+      pub answer-0 : length (v .rows) + length rows ≤ row-limit → submit-answer s v j ≡ record { number = 0; task = 0; cost = costs rows; rows = length rows }
+      unfolding submit-answer found
+      answer-0 h =
+          let adm : Admitted s v j
+          = record {
+            in-range = range;
+            not-held = free;
+            feasible = feasible;
+            rows-found = rw is-placed refl;
+            fits = rw is-placed h;
+          } in
+          judged-none _ (submit-answered s v j .passed .0 (admits s v j adm))
+          ∙ ap (λ p. record { number = 0; task = 0; cost = costs (found p); rows = length (found p) }) is-placed
+
+-- What is left.
+
+pub refused-left : (s : Setup) (st : State) (j : Job) {n t : ℕ} → (n ≡ 0 → ⊥) → submit-answer s (view st) j ≡ refusal n t → step s st (submits j) .left ≡ st
+unfolding step settle
+refused-left s st j {n} ne e = rw e (rw (ne-eqb n 0 ne) refl)
+
+pub admitted-left :
+    (s : Setup) (st : State) (j : Job) (rows : List Row) → submit-answer s (view st) j .number ≡ 0 → placing s (view st) j ≡ booked rows →
+    step s st (submits j) .left ≡ admit st rows
+unfolding step settle found
+admitted-left s st j rows z e = rw (eq-eqb (submit-answer s (view st) j .number) 0 z, e) refl

@@ -1,0 +1,11 @@
+-- Laws that the functions' proofs cite.
+pub mod Ranged
+pub mod Feasibility
+pub mod Sighted
+pub mod Answers
+pub mod Values
+pub mod Admission
+pub mod Removed
+pub mod Scans
+pub mod Stepped
+pub mod Demand3

@@ -1,0 +1,318 @@
+-- A call on a valid register, refused or accepted, as a step of the rules.
+use mathlib.Core.Path.{_≡_, refl, sym, ap, ap₂, _∙_, subst}
+use mathlib.Core.Bool.{Bool, true, false, not}
+use mathlib.Core.List.{List, _++_, Memᴰ·append-right}
+use mathlib.Core.Option.{Option, none, some}
+use Prim.Native.Nat.{ℕ, zero, suc, _+_, _-_, _≤_, _<_}
+use native.Mathlib.Omega.{arith}
+use lib.ListN.{length, take, replicate, length-append}
+use lib.Seq.{length-take-le}
+use lib.Dec.{ltb, leb}
+use borrow.Author.Tests.{eq-eqb, ne-eqb, lt-ltb, le-ltb}
+use Rattle.rules.specs.declared.Row.{Row}
+use Rattle.rules.specs.declared.Job.{Job}
+use Rattle.rules.specs.declared.Answer.{Answer}
+use Rattle.rules.specs.declared.Setup.{Setup}
+use Rattle.rules.specs.Sequences.{any-of, keep}
+use Rattle.rules.specs.Words.{State, View, view, of-job, row-limit, largest-number, horizon}
+use Rattle.rules.specs.Placing.{no-row, costs, booked, late}
+use Rattle.rules.specs.Withdrawing.{admit, withdraw, advance, remove, ended}
+use Rattle.rules.specs.Refusals.{refuse-if, outside, refusal, accepted, miscounted, out-of-range, bad-messages, first-infeasible, placing, found, submit-tests, submit-answer, withdraw-tests, withdraw-answer, clock-tests, clock-answer, Call, submits, withdraws, moves, settle, step}
+use Rattle.rules.specs.Demands.{InRange, passes, end}
+use Rattle.rules.specs.Bounds.{Bounded}
+use Rattle.rules.proofs.Struck.{step-still}
+use Rattle.rules.proofs.Bounds.{bounded-step}
+use Rattle.placement.specs.Placements.{placing-of, AskPlace, PlacementIs}
+use Rattle.placement.specs.declared.place.Placement.{Placement}
+use Rattle.placement.proofs.Placed.{costs-at-most, next-some, next-none}
+use Rattle.reservation.specs.declared.Register.{Register}
+use Rattle.reservation.specs.declared.Reply.{Reply}
+use Rattle.reservation.specs.Registers.{state-of, register-of, Valid}
+use Rattle.reservation.specs.Calls.{Steps, EarlyIs, AskAdmit, Admits}
+use Rattle.reservation.specs.Tests.{named}
+use Rattle.reservation.proofs.Values.{register-same, register-valid, blank-rest}
+use Rattle.reservation.proofs.Answers.{First, here, later, first-answers, judged-first, judged-none, answer-6, answer-7, answer-8, answer-0, admitted-left}
+
+module _ {r : Register} (valid : Valid r) (c : Call) (a : Answer) (is : step (r .setup) (state-of r) c .answer ≡ a) where
+  -- a refusal leaves the very same register
+  pub refused-steps : (a .number ≡ 0 → ⊥) → Steps r c (record { answer = a; register = r })
+  refused-steps ne =
+      let still = step-still (r .setup) (state-of r) c (ap accepted is ∙ ne-eqb (a .number) 0 ne) in
+      record { answer-is = sym is; left-is = sym (ap (register-of (r .setup)) still ∙ register-same r valid); valid = valid }
+
+  -- an accepted call leaves the register of the state that the rules leave
+  pub accepted-steps : (left : Register) → left ≡ register-of (r .setup) (step (r .setup) (state-of r) c .left) → Steps r c (record { answer = a; register = left })
+  accepted-steps left e = record {
+    answer-is = sym is;
+    left-is = e;
+    valid =
+        subst
+        Valid
+        (sym e)
+        (register-valid
+        (r .setup)
+        (step (r .setup) (state-of r) c .left)
+        (valid .sound)
+        (bounded-step (r .setup) (valid .sound) (state-of r) c (valid .bounded)));
+  }
+
+-- Refusals 1 to 5.
+
+module _ {r : Register} {j : Job} where
+  abbrev first-is : (n : ℕ) → First n 0 (submit-tests (r .setup) (view (state-of r)) j) → (n ≡ 0 → ⊥) → n ≤ 5 → EarlyIs r j n
+  first-is n f ne few = record {
+    refused = λ _. first-answers (r .setup) (view (state-of r)) j f;
+    refusal-number = few;
+    in-range = λ z. absurd (ne z);
+    not-held = λ z. absurd (ne z);
+  }
+
+  pub early-1 : outside 1 largest-number (j .number) ≡ true → EarlyIs r j 1
+  unfolding submit-tests
+  early-1 a = first-is 1 (here refl (ap refuse-if a)) (λ z. omega arith) (omega arith)
+
+  module _ (a : outside 1 largest-number (j .number) ≡ false) where
+    pub early-2 : miscounted j ≡ true → EarlyIs r j 2
+    unfolding submit-tests
+    early-2 b = first-is 2 (later (ap refuse-if a) (here refl (ap refuse-if b))) (λ z. omega arith) (omega arith)
+
+    module _ (b : miscounted j ≡ false) where
+      pub early-3 : out-of-range (r .setup) j ≡ true → EarlyIs r j 3
+      unfolding submit-tests
+      early-3 c = first-is 3 (later (ap refuse-if a) (later (ap refuse-if b) (here refl (ap refuse-if c)))) (λ z. omega arith) (omega arith)
+
+      module _ (c : out-of-range (r .setup) j ≡ false) where
+        pub early-4 : bad-messages j ≡ true → EarlyIs r j 4
+        unfolding submit-tests
+        early-4 d =
+            first-is
+            4
+            (later (ap refuse-if a) (later (ap refuse-if b) (later (ap refuse-if c) (here refl (ap refuse-if d)))))
+            (λ z. omega arith)
+            (omega arith)
+
+        module _ (d : bad-messages j ≡ false) where
+          pub early-5 : view (state-of r) .held (j .number) ≡ true → EarlyIs r j 5
+          unfolding submit-tests
+          early-5 e =
+              first-is
+              5
+              (later (ap refuse-if a) (later (ap refuse-if b) (later (ap refuse-if c) (later (ap refuse-if d) (here refl (ap refuse-if e))))))
+              (λ z. omega arith)
+              (omega arith)
+
+          pub early-0 : view (state-of r) .held (j .number) ≡ false → EarlyIs r j 0
+          early-0 e = record {
+            refused = λ ne. absurd (ne refl);
+            refusal-number = omega arith;
+            in-range = λ _. record { number = a; counts = b; figures = c; messages = d };
+            not-held = λ _. e;
+          }
+
+-- Refusals 6 to 8, and admission.
+
+placed-late : (rows : List Row) (t : ℕ) → (t ≡ 0 → ⊥) → placing-of t rows ≡ late t
+placed-late rows zero ne = absurd (ne refl)
+placed-late rows (suc t) ne = refl
+
+module _ {r : Register} (valid : Valid r) {j : Job} {n : ℕ} (early : EarlyIs r j n) where
+  pub submit-early : (n ≡ 0 → ⊥) → Steps r (submits j) (record { answer = refusal n 0; register = r })
+  unfolding step settle
+  submit-early ne = refused-steps valid (submits j) (refusal n 0) (early .refused ne) ne
+
+  module _ (z : n ≡ 0) where
+    abbrev s : Setup
+    s = r .setup
+
+    abbrev v : View
+    v = view (state-of r)
+
+    pub submit-6 : (t : ℕ) → named t ≡ first-infeasible s (r .clock) j → (t ≡ 0 → ⊥) → Steps r (submits j) (record { answer = refusal 6 t; register = r })
+    unfolding step settle
+    submit-6 t e ne =
+        refused-steps valid (submits j) (refusal 6 t) (answer-6 s v j (early .in-range z) (early .not-held z) (next-some t ne e)) (λ x. omega arith)
+
+    pub ask-place : AskPlace s (r .clock) (r .rows) (r .count) j
+    ask-place = record {
+      sound = valid .sound;
+      clock-at-most = valid .bounded .clock;
+      count-at-most = valid .count-at-most;
+      rows-in-range = valid .bounded .rows;
+      in-range = early .in-range z;
+    }
+
+    module _ {t : ℕ} (feasible : named t ≡ first-infeasible s (r .clock) j) (none-such : t ≡ 0) {found : Placement}
+        (is : PlacementIs s (r .clock) (r .rows) (r .count) j found) where
+      no-infeasible : first-infeasible s (r .clock) j ≡ none
+      no-infeasible = next-none none-such feasible
+
+      pub submit-7 : (found .late ≡ 0 → ⊥) → Steps r (submits j) (record { answer = refusal 7 (found .late); register = r })
+      unfolding step settle placing
+      submit-7 ne =
+          refused-steps
+          valid
+          (submits j)
+          (refusal 7 (found .late))
+          (answer-7
+          s
+          v
+          j
+          (early .in-range z)
+          (early .not-held z)
+          no-infeasible
+          (sym (is .is) ∙ placed-late (take (found .count) (found .rows)) (found .late) ne))
+          (λ x. omega arith)
+
+      module _ (in-time : found .late ≡ 0) where
+        abbrev rows : List Row
+        rows = take (found .count) (found .rows)
+
+        rows-found : placing s v j ≡ booked rows
+        unfolding placing
+        rows-found = sym (is .is) ∙ ap (λ k. placing-of k rows) in-time
+
+        held-length : length (take (r .count) (r .rows)) ≡ r .count
+        held-length = length-take-le (r .count) (r .rows) (let l = valid .long in let c = valid .count-at-most in omega arith)
+
+        found-length : length rows ≡ found .count
+        found-length = length-take-le (found .count) (found .rows) (let l = is .long in let c = is .count-at-most in omega arith)
+
+        pub submit-8 : row-limit < r .count + found .count → Steps r (submits j) (record { answer = refusal 8 0; register = r })
+        unfolding step settle
+        submit-8 h =
+            refused-steps
+            valid
+            (submits j)
+            (refusal 8 0)
+            (answer-8
+            s
+            v
+            j
+            (early .in-range z)
+            (early .not-held z)
+            no-infeasible
+            rows
+            rows-found
+            (let a = held-length in let b = found-length in omega arith))
+            (λ x. omega arith)
+
+        module _ (fits : r .count + found .count ≤ row-limit) where
+          abbrev admission : Answer
+          admission = record { number = 0; task = 0; cost = found .cost; rows = found .count }
+
+          answered : step s (state-of r) (submits j) .answer ≡ admission
+          unfolding step settle
+          answered =
+              answer-0 s v j (early .in-range z) (early .not-held z) no-infeasible rows rows-found (let a = held-length in let b = found-length in omega arith)
+              ∙ ap₂ (λ c k. record { number = 0; task = 0; cost = c; rows = k }) (sym (is .cost-is)) found-length
+
+          left-admits : step s (state-of r) (submits j) .left ≡ admit (state-of r) rows
+          unfolding step settle
+          left-admits = admitted-left s (state-of r) j rows (ap (λ a. a .number) answered) rows-found
+
+          pub ask-admit : AskAdmit r found
+          unfolding admit
+          ask-admit =
+              let bounded : Bounded s (admit (state-of r) rows)
+              = subst (Bounded s) left-admits (bounded-step s (valid .sound) (state-of r) (submits j) (valid .bounded)) in
+              let spent = costs-at-most s rows (λ row m. bounded .rows row (Memᴰ·append-right (take (r .count) (r .rows)) m)) in
+              let cost = is .cost-is in
+              let few = is .count-at-most in
+              let all = found-length in
+              record { valid = valid; found-long = is .long; found-at-most = few; fits = fits; cost-at-most = omega arith }
+
+          pub submit-0 : {left : Register} → Admits r found left → Steps r (submits j) (record { answer = admission; register = left })
+          unfolding admit
+          submit-0 {left} ad =
+              let kept = take (r .count) (r .rows) in
+              let count-is : left .count ≡ length (kept ++ rows)
+              = let c = ad .count-is in let l = length-append kept rows in let a = held-length in let b = found-length in omega arith in
+              let count-fits : left .count ≤ row-limit = let c = ad .count-is in omega arith in
+              let rows-are : left .rows ≡ (kept ++ rows) ++ replicate (row-limit - length (kept ++ rows)) no-row
+              = blank-rest (left .rows) (left .count) (ad .long) count-fits (ad .blank)
+              ∙ ap₂ (λ l k. l ++ replicate (row-limit - k) no-row) (ad .rows-are) count-is in
+              let total-is : left .total ≡ r .total + costs rows = ad .total-is ∙ ap (λ x. r .total + x) (is .cost-is) in
+              let whole : left ≡ register-of s (admit (state-of r) rows)
+              = λ i. record { setup = ad .setup-is i; clock = ad .clock-is i; count = count-is i; rows = rows-are i; total = total-is i } in
+              accepted-steps valid (submits j) admission answered left (whole ∙ ap (register-of s) (sym left-admits))
+
+-- Withdrawals and clock moves.
+
+module _ (s : Setup) (st : State) where
+  pub withdraw-9 : (n : ℕ) → view st .held n ≡ false → step s st (withdraws n) .answer ≡ refusal 9 0
+  unfolding step settle withdraw-answer withdraw-tests
+  withdraw-9 n a = judged-first _ (here refl (ap (λ b. refuse-if (not b)) a))
+
+  pub withdraw-10 : (n : ℕ) → view st .held n ≡ true → any-of (λ row. leb (row .start) (st .clock)) (view st .rows-of n) ≡ true → step s st (withdraws n) .answer ≡ refusal 10 0
+  unfolding step settle withdraw-answer withdraw-tests
+  withdraw-10 n a b = judged-first _ (later (ap (λ b. refuse-if (not b)) a) (here refl (ap refuse-if b)))
+
+  pub withdraw-0 : (n : ℕ) → view st .held n ≡ true → any-of (λ row. leb (row .start) (st .clock)) (view st .rows-of n) ≡ false → step s st (withdraws n) .answer ≡ refusal 0 0
+  unfolding step settle withdraw-answer withdraw-tests
+  withdraw-0 n a b = judged-none _ (passes (ap (λ b. refuse-if (not b)) a) (passes (ap refuse-if b) end))
+
+  pub withdrawn-left : (n : ℕ) → step s st (withdraws n) .answer ≡ refusal 0 0 → step s st (withdraws n) .left ≡ withdraw st n
+  unfolding step settle
+  withdrawn-left n e = rw (ap (λ a. a .number) e) refl
+
+  pub clock-11 : (tick : ℕ) → tick < st .clock → step s st (moves tick) .answer ≡ refusal 11 0
+  unfolding step settle clock-answer clock-tests
+  clock-11 tick h = judged-first _ (here refl (ap refuse-if (lt-ltb tick (st .clock) h)))
+
+  pub clock-12 : (tick : ℕ) → st .clock ≤ tick → horizon < tick → step s st (moves tick) .answer ≡ refusal 12 0
+  unfolding step settle clock-answer clock-tests
+  clock-12 tick h k = judged-first _ (later (ap refuse-if (le-ltb tick (st .clock) h)) (here refl (ap refuse-if (lt-ltb horizon tick k))))
+
+  pub clock-0 : (tick : ℕ) → st .clock ≤ tick → tick ≤ horizon → step s st (moves tick) .answer ≡ refusal 0 0
+  unfolding step settle clock-answer clock-tests
+  clock-0 tick h k = judged-none _ (passes (ap refuse-if (le-ltb tick (st .clock) h)) (passes (ap refuse-if (le-ltb horizon tick k)) end))
+
+  pub moved-left : (tick : ℕ) → step s st (moves tick) .answer ≡ refusal 0 0 → step s st (moves tick) .left ≡ advance st tick
+  unfolding step settle
+  moved-left tick e = rw (ap (λ a. a .number) e) refl
+
+module _ {r : Register} (valid : Valid r) where
+  pub refused-9 : (n : ℕ) → view (state-of r) .held n ≡ false → Steps r (withdraws n) (record { answer = refusal 9 0; register = r })
+  refused-9 n a = refused-steps valid (withdraws n) (refusal 9 0) (withdraw-9 (r .setup) (state-of r) n a) (λ z. omega arith)
+
+  pub refused-10 :
+      (n : ℕ) → view (state-of r) .held n ≡ true → any-of (λ row. leb (row .start) (r .clock)) (view (state-of r) .rows-of n) ≡ true →
+      Steps r (withdraws n) (record { answer = refusal 10 0; register = r })
+  refused-10 n a b = refused-steps valid (withdraws n) (refusal 10 0) (withdraw-10 (r .setup) (state-of r) n a b) (λ z. omega arith)
+
+  pub withdrawn :
+      (n : ℕ) → view (state-of r) .held n ≡ true → any-of (λ row. leb (row .start) (r .clock)) (view (state-of r) .rows-of n) ≡ false →
+      {left : Register} → left ≡ register-of (r .setup) (remove (of-job n) (state-of r)) → Steps r (withdraws n) (record { answer = refusal 0 0; register = left })
+  unfolding withdraw
+  withdrawn n a b {left} e =
+      let is = withdraw-0 (r .setup) (state-of r) n a b in
+      accepted-steps valid (withdraws n) (refusal 0 0) is left (e ∙ ap (register-of (r .setup)) (sym (withdrawn-left (r .setup) (state-of r) n is)))
+
+  pub refused-11 : (tick : ℕ) → tick < r .clock → Steps r (moves tick) (record { answer = refusal 11 0; register = r })
+  refused-11 tick h = refused-steps valid (moves tick) (refusal 11 0) (clock-11 (r .setup) (state-of r) tick h) (λ z. omega arith)
+
+  pub refused-12 : (tick : ℕ) → r .clock ≤ tick → horizon < tick → Steps r (moves tick) (record { answer = refusal 12 0; register = r })
+  refused-12 tick h k = refused-steps valid (moves tick) (refusal 12 0) (clock-12 (r .setup) (state-of r) tick h k) (λ z. omega arith)
+
+  -- the register with its clock set
+  abbrev pub at-tick : ℕ → Register
+  at-tick tick = record { setup = r .setup; clock = tick; count = r .count; rows = r .rows; total = r .total }
+
+  pub moved-valid : (tick : ℕ) → r .clock ≤ tick → tick ≤ horizon → Valid (at-tick tick)
+  moved-valid tick h k = record {
+    sound = valid .sound;
+    long = valid .long;
+    count-at-most = valid .count-at-most;
+    blank = valid .blank;
+    bounded = record { clock = k; count = valid .bounded .count; rows = valid .bounded .rows; total = valid .bounded .total };
+  }
+
+  pub clock-moved :
+      (tick : ℕ) → r .clock ≤ tick → tick ≤ horizon →
+      {left : Register} →
+      left ≡ register-of (r .setup) (remove (λ row. ended tick (keep (of-job (row .job)) (take (r .count) (r .rows)))) (state-of (at-tick tick))) →
+      Steps r (moves tick) (record { answer = refusal 0 0; register = left })
+  unfolding advance
+  clock-moved tick h k {left} e =
+      let is = clock-0 (r .setup) (state-of r) tick h k in
+      accepted-steps valid (moves tick) (refusal 0 0) is left (e ∙ ap (register-of (r .setup)) (sym (moved-left (r .setup) (state-of r) tick is)))

@@ -1,0 +1,65 @@
+-- `reservation::removal::figures_of` meets its contract: the first i entries of both columns are made.
+use mathlib.Core.Path.{_≡_, refl, sym, ap, _∙_, subst}
+use mathlib.Core.Bool.{false}
+use Prim.Native.Nat.{_-_, _≤_, _<_}
+use native.Mathlib.Omega.{arith}
+use native.Mathlib.Numerals.{add-one}
+use Rattle.reservation.proofs.Removed.{Made, made-none, made-more}
+use Rattle.reservation.proofs.removal.figures_of.Statement.{statement}
+use Rattle.reservation.proofs.removal.figures_of.Tie as tie
+
+abbrev Inv-loop : tie.InvT-loop
+Inv-loop count rows figures₀ i₀ figures i =
+    (i ≤ count) × Made 0 (λ row. row .job) rows (figures .jobs) i × Made 0 (λ row. row .finish) rows (figures .finishes) i
+
+abbrev μ-loop : tie.MeasureT-loop
+μ-loop count rows figures₀ i₀ figures i = count - i
+
+loop-holds : tie.Need-loop-holds Inv-loop μ-loop
+loop-holds c = (omega arith, made-none 0 _ _ _ refl, made-none 0 _ _ _ refl)
+
+mul-figures : tie.Need-mul-figures Inv-loop μ-loop
+mul-figures c = omega arith
+
+element-copy-out-figures : tie.Need-element-copy-out-figures Inv-loop μ-loop
+element-copy-out-figures c = omega arith
+
+mul-figures-2 : tie.Need-mul-figures-2 Inv-loop μ-loop
+mul-figures-2 c = omega arith
+
+element-write-figures : tie.Need-element-write-figures Inv-loop μ-loop
+element-write-figures c = omega arith
+
+mul-figures-3 : tie.Need-mul-figures-3 Inv-loop μ-loop
+mul-figures-3 c = omega arith
+
+element-copy-out-figures-2 : tie.Need-element-copy-out-figures-2 Inv-loop μ-loop
+element-copy-out-figures-2 c = omega arith
+
+mul-figures-4 : tie.Need-mul-figures-4 Inv-loop μ-loop
+mul-figures-4 c = omega arith
+
+element-write-figures-2 : tie.Need-element-write-figures-2 Inv-loop μ-loop
+element-write-figures-2 c = omega arith
+
+add-i : tie.Need-add-i Inv-loop μ-loop
+add-i c = omega arith
+
+loop-less : tie.Need-loop-less Inv-loop μ-loop
+loop-less c = omega arith
+
+loop-again : tie.Need-loop-again Inv-loop μ-loop
+loop-again c =
+    let at = c .before in
+    rw
+    (add-one (at .loop .i))
+    (omega arith, made-more (at .loop .inv .1) (omega arith) _ refl, made-more (at .loop .inv .2) (omega arith) _ refl)
+
+returns : tie.Need-returns Inv-loop μ-loop
+returns c =
+    let jobs = c .before .loop .inv .1 in
+    let finishes = c .before .loop .inv .2 in
+    (record { long = jobs .long; is = λ i h. jobs .is i (omega arith) }, record { long = finishes .long; is = λ i h. finishes .is i (omega arith) })
+
+pub figures-of-spec : {M : Type 1} → statement M
+figures-of-spec = tie.close (tie.spec Inv-loop μ-loop loop-holds mul-figures element-copy-out-figures mul-figures-2 element-write-figures mul-figures-3 element-copy-out-figures-2 mul-figures-4 element-write-figures-2 add-i loop-less loop-again returns)

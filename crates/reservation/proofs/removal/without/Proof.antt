@@ -1,0 +1,73 @@
+-- `reservation::removal::without` meets its contract: after i rows those that stay stand at the front, and the total is theirs and that of the rows left.
+use mathlib.Core.Path.{_≡_, refl, sym, ap, _∙_, subst}
+use mathlib.Core.Bool.{false}
+use Prim.Native.Nat.{_-_, _≤_, _<_}
+use native.Mathlib.Omega.{arith}
+use native.Mathlib.Numerals.{add-one}
+use lib.ListN.{length, replicate}
+use Rattle.rules.specs.Words.{row-limit}
+use Rattle.rules.specs.Placing.{no-row}
+use Rattle.reservation.proofs.Removed.{Removing, removing-none, cost-there, removing-gone, removing-stays, removing-all}
+use Rattle.reservation.proofs.removal.without.Statement.{statement}
+use Rattle.reservation.proofs.removal.without.Tie as tie
+
+abbrev Inv-loop : tie.InvT-loop
+Inv-loop register leaves rows₀ kept₀ total₀ count i₀ rows kept total i =
+    Removing register leaves rows kept total i
+
+abbrev μ-loop : tie.MeasureT-loop
+μ-loop register leaves rows₀ kept₀ total₀ count i₀ rows kept total i = register .count - i
+
+blank-requires : tie.Need-blank-requires Inv-loop μ-loop
+blank-requires c κs = tt
+
+loop-holds : tie.Need-loop-holds Inv-loop μ-loop
+loop-holds c = rw (c .blank .ensures) (removing-none (c .before .pre))
+
+mul-row : tie.Need-mul-row Inv-loop μ-loop
+mul-row c = omega arith
+
+element-copy-out-row : tie.Need-element-copy-out-row Inv-loop μ-loop
+element-copy-out-row c = omega arith
+
+array-read-gone : tie.Need-array-read-gone Inv-loop μ-loop
+array-read-gone c = omega arith
+
+add-i : tie.Need-add-i Inv-loop μ-loop
+add-i c = omega arith
+
+sub-total : tie.Need-sub-total Inv-loop μ-loop
+sub-total c =
+    let at = c .before .before .before .before in
+    cost-there (at .before .before .pre) (at .loop .inv) (c .before .before .before .loop-test .taken)
+
+loop-less : tie.Need-loop-less Inv-loop μ-loop
+loop-less c = omega arith
+
+loop-again : tie.Need-loop-again Inv-loop μ-loop
+loop-again c =
+    let at = c .before .before .before .before in
+    rw (add-one (at .loop .i)) (removing-gone (at .before .before .pre) (at .loop .inv) (c .before .before .before .loop-test .taken) (c .before .if1 .taken))
+
+mul-rows : tie.Need-mul-rows Inv-loop μ-loop
+mul-rows c = omega arith
+
+array-set-from-rows : tie.Need-array-set-from-rows Inv-loop μ-loop
+array-set-from-rows c = omega arith
+
+add-kept : tie.Need-add-kept Inv-loop μ-loop
+add-kept c = omega arith
+
+loop-less-2 : tie.Need-loop-less-2 Inv-loop μ-loop
+loop-less-2 c = omega arith
+
+loop-again-2 : tie.Need-loop-again-2 Inv-loop μ-loop
+loop-again-2 c =
+    let at = c .before .before .before in
+    rw (add-one (at .loop .i), add-one (at .loop .kept)) (removing-stays (at .before .before .pre) (at .loop .inv) (c .before .before .loop-test .taken) (c .if1 .left))
+
+returns : tie.Need-returns Inv-loop μ-loop
+returns c = removing-all (c .before .before .before .before .pre) (c .before .before .loop .inv) (c .before .loop-test .left)
+
+pub without-spec : {M : Type 1} → statement M
+without-spec = tie.close (tie.spec Inv-loop μ-loop blank-requires loop-holds mul-row element-copy-out-row array-read-gone add-i sub-total loop-less loop-again mul-rows array-set-from-rows add-kept loop-less-2 loop-again-2 returns)

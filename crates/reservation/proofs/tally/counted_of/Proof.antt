@@ -1,0 +1,43 @@
+-- `reservation::tally::counted_of` meets its contract: each way out is one case of `counted`.
+use mathlib.Core.Path.{refl}
+use borrow.Author.Needs.{needs}
+use borrow.Author.Tests.{eq-eqb, ne-eqb}
+use Rattle.reservation.specs.Tallies.{most-counted, counted}
+use Rattle.reservation.proofs.tally.counted_of.Statement.{statement}
+use Rattle.reservation.proofs.tally.counted_of.Tie as tie
+
+returns : tie.Need-returns
+unfolding counted
+returns c =
+    let t = c .before .before .args .t in
+    rw (eq-eqb (t .arrived) most-counted (c .if1 .taken)) refl
+
+returns-2 : tie.Need-returns-2
+unfolding counted
+returns-2 c =
+    let t = c .before .before .before .before .args .t in
+    rw (ne-eqb (t .arrived) most-counted (c .before .before .if1 .left), eq-eqb (t .admitted) most-counted (c .if2 .taken)) refl
+
+add-t4 : tie.Need-add-t4
+add-t4 c = search needs
+
+add-t5 : tie.Need-add-t5
+add-t5 c = search needs
+
+returns-3 : tie.Need-returns-3
+unfolding counted
+returns-3 c =
+    let t = c .before .before .before .before .before .before .before .args .t in
+    rw (ne-eqb (t .arrived) most-counted (c .before .before .before .before .before .if1 .left), ne-eqb (t .admitted) most-counted (c .before .before .before .if2 .left), c .before .before .if3 .taken) refl
+
+add-t6 : tie.Need-add-t6
+add-t6 c = search needs
+
+returns-4 : tie.Need-returns-4
+unfolding counted
+returns-4 c =
+    let t = c .before .before .before .before .before .before .args .t in
+    rw (ne-eqb (t .arrived) most-counted (c .before .before .before .before .if1 .left), ne-eqb (t .admitted) most-counted (c .before .before .if2 .left), c .before .if3 .left) refl
+
+pub counted-of-spec : {M : Type 1} → statement M
+counted-of-spec = tie.close (tie.spec returns returns-2 add-t4 add-t5 returns-3 add-t6 returns-4)

@@ -1,0 +1,36 @@
+// One call of any kind, applied to a register.
+use crate::Register;
+use crate::Reply;
+use rules::Job;
+ghost use Rattle.reservation.specs.Registers.{Valid};
+ghost use Rattle.reservation.specs.Calls.{Steps};
+ghost use Rattle.reservation.specs.Chains.{call-of};
+
+// The kind of a call, with its number or tick. A submission's job stands beside it, since an enum holds no arrays.
+pub enum Kind {
+    Submit,
+    Withdraw(u64),
+    Clock(u64),
+}
+
+pub struct Call {
+    pub kind: Kind,
+    pub job: Job,
+}
+
+impl Register {
+    pub fn apply(self, call: Call) -> Reply
+        requires { ⌜ Valid self ⌝ }
+        ensures { λ r. ⌜ Steps self (call-of call) r ⌝ }
+    {
+        let kind = call.kind;
+        match kind {
+            Kind::Submit => {
+                let job = call.job;
+                self.submit(job)
+            }
+            Kind::Withdraw(number) => self.withdraw(number),
+            Kind::Clock(tick) => self.move_clock(tick),
+        }
+    }
+}

@@ -1,0 +1,21 @@
+-- `booking::calls::apply` meets its contract: a refused call leaves the register that it was handed.
+use borrow.Author.Needs.{needs}
+use Rattle.booking.proofs.Refused.{refused-kept}
+use Rattle.booking.proofs.calls.apply.Statement.{statement}
+use Rattle.booking.proofs.calls.apply.Tie as tie
+
+apply-requires : tie.Need-apply-requires
+apply-requires c κs = search needs
+
+print-answer-requires : tie.Need-print-answer-requires
+print-answer-requires c κs = search needs
+
+check-refused-requires : tie.Need-check-refused-requires
+check-refused-requires c κs = refused-kept (c .before .before .pre) (c .before .apply .ensures)
+
+returns : tie.Need-returns
+returns c = search needs
+
+pub apply-spec : {M : Type 1} → statement M
+apply-spec =
+    tie.close (tie.spec apply-requires print-answer-requires check-refused-requires returns)

@@ -1,0 +1,21 @@
+-- `booking::calls::submit` meets its contract: a refused call leaves the register that it was handed.
+use borrow.Author.Needs.{needs}
+use Rattle.booking.proofs.Refused.{refused-kept}
+use Rattle.booking.proofs.calls.submit.Statement.{statement}
+use Rattle.booking.proofs.calls.submit.Tie as tie
+
+submit-requires : tie.Need-submit-requires
+submit-requires c κs = search needs
+
+print-answer-requires : tie.Need-print-answer-requires
+print-answer-requires c κs = search needs
+
+check-refused-requires : tie.Need-check-refused-requires
+check-refused-requires c κs = refused-kept (c .before .before .pre) (c .before .submit .ensures)
+
+returns : tie.Need-returns
+returns c = search needs
+
+pub submit-spec : {M : Type 1} → statement M
+submit-spec =
+    tie.close (tie.spec submit-requires print-answer-requires check-refused-requires returns)

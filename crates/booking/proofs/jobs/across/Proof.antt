@@ -1,0 +1,62 @@
+-- `booking::jobs::across` is safe and ends: the measure is the count of messages that are left.
+use Prim.Native.Nat.{_-_}
+use native.Mathlib.Omega.{arith}
+use Rattle.booking.proofs.jobs.across.Statement.{statement}
+use Rattle.booking.proofs.jobs.across.Tie as tie
+
+abbrev Inv-loop : tie.InvT-loop
+Inv-loop volume messages₀ i₀ messages i = Unit {0}
+
+abbrev μ-loop : tie.MeasureT-loop
+μ-loop volume messages₀ i₀ messages i = 32 - i
+
+message-requires : tie.Need-message-requires Inv-loop μ-loop
+message-requires c κs = tt
+
+loop-holds : tie.Need-loop-holds Inv-loop μ-loop
+loop-holds c = tt
+
+add-message : tie.Need-add-message Inv-loop μ-loop
+add-message c = omega arith
+
+add-message-2 : tie.Need-add-message-2 Inv-loop μ-loop
+add-message-2 c = omega arith
+
+message-requires-2 : tie.Need-message-requires-2 Inv-loop μ-loop
+message-requires-2 c κs = tt
+
+mul-messages : tie.Need-mul-messages Inv-loop μ-loop
+mul-messages c = omega arith
+
+array-set-from-messages : tie.Need-array-set-from-messages Inv-loop μ-loop
+array-set-from-messages c = omega arith
+
+add-i : tie.Need-add-i Inv-loop μ-loop
+add-i c = omega arith
+
+loop-less : tie.Need-loop-less Inv-loop μ-loop
+loop-less c = omega arith
+
+loop-again : tie.Need-loop-again Inv-loop μ-loop
+loop-again c = tt
+
+returns : tie.Need-returns Inv-loop μ-loop
+returns c = tt
+
+pub across-spec : {M : Type 1} → statement M
+across-spec =
+    tie.close
+    (tie.spec
+    Inv-loop
+    μ-loop
+    message-requires
+    loop-holds
+    add-message
+    add-message-2
+    message-requires-2
+    mul-messages
+    array-set-from-messages
+    add-i
+    loop-less
+    loop-again
+    returns)

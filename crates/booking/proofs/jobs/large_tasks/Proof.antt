@@ -1,0 +1,54 @@
+-- `booking::jobs::large_tasks` is safe and ends: the measure is the count of tasks that are left.
+use Prim.Native.Nat.{_-_}
+use native.Mathlib.Omega.{arith}
+use Rattle.booking.proofs.jobs.large_tasks.Statement.{statement}
+use Rattle.booking.proofs.jobs.large_tasks.Tie as tie
+
+abbrev Inv-loop : tie.InvT-loop
+Inv-loop tasks₀ i₀ tasks i = Unit {0}
+
+abbrev μ-loop : tie.MeasureT-loop
+μ-loop tasks₀ i₀ tasks i = 16 - i
+
+task-requires : tie.Need-task-requires Inv-loop μ-loop
+task-requires c κs = tt
+
+loop-holds : tie.Need-loop-holds Inv-loop μ-loop
+loop-holds c = tt
+
+task-requires-2 : tie.Need-task-requires-2 Inv-loop μ-loop
+task-requires-2 c κs = tt
+
+mul-tasks : tie.Need-mul-tasks Inv-loop μ-loop
+mul-tasks c = omega arith
+
+array-set-from-tasks : tie.Need-array-set-from-tasks Inv-loop μ-loop
+array-set-from-tasks c = omega arith
+
+add-i : tie.Need-add-i Inv-loop μ-loop
+add-i c = omega arith
+
+loop-less : tie.Need-loop-less Inv-loop μ-loop
+loop-less c = omega arith
+
+loop-again : tie.Need-loop-again Inv-loop μ-loop
+loop-again c = tt
+
+returns : tie.Need-returns Inv-loop μ-loop
+returns c = tt
+
+pub large-tasks-spec : {M : Type 1} → statement M
+large-tasks-spec =
+    tie.close
+    (tie.spec
+    Inv-loop
+    μ-loop
+    task-requires
+    loop-holds
+    task-requires-2
+    mul-tasks
+    array-set-from-tasks
+    add-i
+    loop-less
+    loop-again
+    returns)

@@ -1,0 +1,44 @@
+// Makes calls in a row on a register, each handed what the last one left, and prints their answers.
+mod calls;
+mod examples;
+mod filling;
+mod jobs;
+mod listing;
+mod refusals;
+
+use calls::fresh;
+use examples::worked_examples;
+use filling::emptied;
+use filling::filled;
+use filling::refilled;
+use listing::print_register;
+use listing::print_state;
+use refusals::by_counts;
+use refusals::by_figures;
+use refusals::by_figures_of_tasks;
+use refusals::by_messages;
+use refusals::by_order;
+use refusals::by_turns;
+use refusals::looks;
+use refusals::of_moves;
+use refusals::of_withdrawals;
+
+// One register from here on: each part is handed what the last one left.
+fn main() {
+    worked_examples();
+    let mut left = fresh();
+    left = by_counts(left);
+    left = by_figures(left);
+    left = by_figures_of_tasks(left);
+    left = by_messages(left);
+    left = by_order(left);
+    left = by_turns(left);
+    left = of_withdrawals(left);
+    looks(left);
+    left = of_moves(left);
+    print_register(left);
+    left = filled(left);
+    left = refilled(left);
+    left = emptied(left);
+    print_state(left);
+}

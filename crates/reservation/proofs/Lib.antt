@@ -9,3 +9,4 @@ pub mod Removed
 pub mod Scans
 pub mod Stepped
 pub mod Demand3
+pub mod Ratios

@@ -77,6 +77,7 @@ fn main() {
     show(b"A", 0, job_a(10));
     show(b"B", 0, job_a(5));
     show(b"C", 0, job_a(2));
+    show(b"D", 0, job_a(1));
     show(b"E", 1, job_e());
     show_least(b"F", 4);
     show_least(b"G", 5);

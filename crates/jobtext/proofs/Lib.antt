@@ -1,0 +1,8 @@
+-- Laws that the functions' proofs cite.
+pub mod Begun
+pub mod Scanned
+pub mod Numbers
+pub mod Lined
+pub mod Progress
+pub mod Grouped
+pub mod Staged

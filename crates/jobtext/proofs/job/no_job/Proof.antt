@@ -1,0 +1,15 @@
+-- `jobtext::job::no_job` meets its contract: the job is blank.
+use native.Mathlib.Omega.{arith}
+use mathlib.Core.Path.{_≡_, refl, sym, ap, _∙_}
+use borrow.Author.Needs.{needs}
+use Rattle.jobtext.proofs.job.no_job.Statement.{statement}
+use Rattle.jobtext.proofs.job.no_job.Tie as tie
+
+blank-job-requires : tie.Need-blank-job-requires
+blank-job-requires c κs = search needs
+
+returns : tie.Need-returns
+returns c = rw (c .blank-job .ensures) refl
+
+pub no-job-spec : {M : Type 1} → statement M
+no-job-spec = tie.close (tie.spec blank-job-requires returns)

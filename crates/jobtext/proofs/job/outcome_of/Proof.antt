@@ -1,0 +1,21 @@
+-- `jobtext::job::outcome_of` meets its contract.
+use native.Mathlib.Omega.{arith}
+use mathlib.Core.Path.{_≡_, refl, sym, ap, _∙_}
+use borrow.Author.Needs.{needs}
+use Rattle.jobtext.proofs.job.outcome_of.Statement.{statement}
+use Rattle.jobtext.proofs.job.outcome_of.Tie as tie
+
+enum-known-line : tie.Need-enum-known-line
+enum-known-line c = search needs
+
+enum-known-line-2 : tie.Need-enum-known-line-2
+enum-known-line-2 c = search needs
+
+returns : tie.Need-returns
+returns c = rw (c .before .line .given .1) refl
+
+returns-2 : tie.Need-returns-2
+returns-2 c = rw (c .before .line2 .given .1) refl
+
+pub outcome-of-spec : {M : Type 1} → statement M
+outcome-of-spec = tie.close (tie.spec enum-known-line enum-known-line-2 returns returns-2)

@@ -6,3 +6,5 @@ pub mod Lined
 pub mod Progress
 pub mod Grouped
 pub mod Staged
+pub mod Decimals
+pub mod Put

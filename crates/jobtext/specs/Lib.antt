@@ -3,4 +3,5 @@ pub mod Figures
 pub mod Lines
 pub mod JobText
 pub mod Answers
+pub mod Put
 pub mod Laws

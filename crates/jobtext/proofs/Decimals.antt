@@ -12,7 +12,7 @@ use Rattle.rules.specs.Sequences.{all-of}
 use Rattle.rules.proofs.Sequences.{by-test, clash, and-true, and-both, or-left, or-right}
 use Rattle.jobtext.specs.Figures.{zero-digit, is-digit, value-after, value, digits-within, decimal}
 use Rattle.jobtext.specs.Lines.{largest-figure, well-written}
-use Rattle.jobtext.specs.Laws.{Decimal-says}
+use Rattle.jobtext.specs.Laws.{Decimal-says, Decimal-only}
 use Rattle.jobtext.proofs.Numbers.{by-less}
 use Rattle.jobtext.proofs.Scanned.{digit-yes}
 
@@ -80,7 +80,7 @@ decimal-says =
 
 -- Which digits a number has.
 
-all-append : {A : Type 0} (p : A → Bool) (a b : List A) → all-of p a ≡ true → all-of p b ≡ true → all-of p (a ++ b) ≡ true
+pub all-append : {A : Type 0} (p : A → Bool) (a b : List A) → all-of p a ≡ true → all-of p b ≡ true → all-of p (a ++ b) ≡ true
 all-append p [] b h k = k
 all-append p (x ∷ a) b h k =
     let both = and-true (p x) (all-of p a) h in
@@ -188,7 +188,7 @@ decimal-after n (d ∷ ds) h e =
     ∙ ap (λ k. (decimal n ++ (k ∷ [])) ++ ds) last
     ∙ append-assoc (decimal n) (d ∷ []) ds
 
-pub decimal-only : (ds : List ℕ) → all-of is-digit ds ≡ true → well-written ds ≡ true → decimal (value ds) ≡ ds
+pub decimal-only : Decimal-only
 unfolding well-written value-after
 decimal-only [] e w = clash w refl
 decimal-only (d ∷ ds) e w =

@@ -8,3 +8,6 @@ pub mod Grouped
 pub mod Staged
 pub mod Decimals
 pub mod Put
+pub mod WrittenAgain
+pub mod ReadsBack
+pub mod RefusedThere

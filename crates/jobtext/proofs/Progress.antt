@@ -4,16 +4,17 @@ use mathlib.Core.Bool.{Bool, true, false, not, _&&_, _||_}
 use mathlib.Core.List.{List, [], _∷_, _++_, append-assoc}
 use Prim.Native.Nat.{ℕ, zero, suc, _+_, _≤_, _<_}
 use native.Mathlib.Omega.{arith}
-use lib.Dec.{ltb}
+use lib.Dec.{ltb, leb, eqb}
 use lib.ListN.{length, getD, drop, length-drop}
-use borrow.Author.Tests.{ltb-false}
+use borrow.Author.Tests.{ltb-false, leb-true}
 use Rattle.rules.specs.Refusals.{outside}
+use Rattle.rules.specs.Sequences.{sum-of}
 use Rattle.rules.proofs.Sequences.{by-test, and-true, or-false}
 use Rattle.jobtext.specs.declared.line.Line.{Line}
 use Rattle.jobtext.specs.declared.line.Line.the-variants.{Figure, Refused}
 use Rattle.jobtext.specs.declared.job.Outcome.{Outcome}
 use Rattle.jobtext.specs.declared.job.Outcome.the-variants.{Read, Stopped}
-use Rattle.jobtext.specs.Figures.{line-feed, value}
+use Rattle.jobtext.specs.Figures.{zero-digit, line-feed, value}
 use Rattle.jobtext.specs.Lines.{Parsed, parsed, refused, followed, Due, any-figure, begins, leading-digits, well-written, figure, line, lines}
 use Rattle.jobtext.specs.JobText.{times}
 use Rattle.jobtext.specs.Answers.{line-said, outcome-said, is-number, reached}
@@ -83,10 +84,15 @@ module _ (due : Due) (text : List ℕ) (at : ℕ) where
       (λ i. never 15 n next (rw (b, i) at e)))
       (λ b. never 14 n next (rw b at e))
 
-  -- the line ends within the text
-  pub line-within : (n next : ℕ) → line due text at ≡ parsed n next → (at < next) × (next ≤ length text)
+  -- the line has its key, a digit and a line feed, and ends within the text
+  pub line-within : (n next : ℕ) → line due text at ≡ parsed n next → (at + (length (due .key) + 2) ≤ next) × (next ≤ length text)
+  unfolding well-written
   line-within n next e =
       let s = line-says n next e in
+      let digits = leading-digits after-key in
+      let written = and-true (well-written digits) (begins (line-feed ∷ []) (drop (length digits) after-key)) (s .numbered) .0 in
+      let few = and-true (leb 1 (length digits) && leb (length digits) 10) (eqb (length digits) 1 || not (eqb (getD digits 0 0) zero-digit)) written .0 in
+      let some = leb-true 1 (length digits) (and-true (leb 1 (length digits)) (leb (length digits) 10) few .0) in
       let feed = and-true (well-written (leading-digits after-key)) (begins (line-feed ∷ []) (drop (length (leading-digits after-key)) after-key)) (s .numbered) .1 in
       let w = key-fits (line-feed ∷ []) (drop (length (leading-digits after-key)) after-key) feed in
       let l₁ = length-drop (length (leading-digits after-key)) after-key in
@@ -139,30 +145,37 @@ lines-append (due ∷ a) b text at = go (λ next. lines-append a b text next) (l
         lines-refused due (a ++ b) text at number place e
         ∙ ap (λ p. followed p (λ ns last. onto ns (lines b text last))) (sym (lines-refused due a text at number place e))
 
--- as many figures as lines, and the last line ends within the text
+-- the fewest bytes of a line: its key, a digit and a line feed
+abbrev pub fewest : List Due → ℕ
+fewest dues = sum-of (λ due. length (due .key) + 2) dues
+
+abbrev pub InRange : Due → ℕ → Type 0
+InRange due n = (due .least ≤ n) × (n ≤ due .most)
+
+-- as many figures as lines, each within its range, and the last line ends within the text
 pub record Whole (dues : List Due) (text : List ℕ) (at : ℕ) (figures : List ℕ) (next : ℕ) : Type 0 where
   pub as-many : length figures ≡ length dues
-  pub on : at ≤ next
+  pub on : at + fewest dues ≤ next
   pub within : next ≤ length text
-  pub at-most : (i : ℕ) → i < length dues → getD figures i 0 ≤ getD dues i (any-figure []) .most
+  pub ranged : (i : ℕ) → i < length dues → InRange (getD dues i (any-figure [])) (getD figures i 0)
 
 -- one more line in front
-more-at-most :
-    (due : Due) (dues : List Due) (n : ℕ) (ns : List ℕ) → n ≤ due .most → ((i : ℕ) → i < length dues → getD ns i 0 ≤ getD dues i (any-figure []) .most) → (i : ℕ) →
-    i < length (due ∷ dues) → getD (n ∷ ns) i 0 ≤ getD (due ∷ dues) i (any-figure []) .most
-more-at-most due dues n ns first rest zero h = first
-more-at-most due dues n ns first rest (suc i) h = rest i (omega arith)
+more-ranged :
+    (due : Due) (dues : List Due) (n : ℕ) (ns : List ℕ) → InRange due n → ((i : ℕ) → i < length dues → InRange (getD dues i (any-figure [])) (getD ns i 0)) → (i : ℕ) →
+    i < length (due ∷ dues) → InRange (getD (due ∷ dues) i (any-figure [])) (getD (n ∷ ns) i 0)
+more-ranged due dues n ns first rest zero h = first
+more-ranged due dues n ns first rest (suc i) h = rest i (omega arith)
 
 pub lines-whole : (dues : List Due) (text : List ℕ) (at : ℕ) (figures : List ℕ) (next : ℕ) → at ≤ length text → lines dues text at ≡ parsed figures next → Whole dues text at figures next
 unfolding lines onto followed
 lines-whole [] text at figures next h e =
     let f : [] ≡ figures = cc in
     let n : at ≡ next = cc in
-    record { as-many = ap length (sym f); on = omega arith; within = omega arith; at-most = λ i k. absurd (omega arith) }
+    record { as-many = ap length (sym f); on = omega arith; within = omega arith; ranged = λ i k. absurd (omega arith) }
 lines-whole (due ∷ dues) text at figures next h e = go (λ n w. lines-whole dues text n) (line due text at) refl
   where
     joined :
-        (n first : ℕ) → (at < first) × (first ≤ length text) → n ≤ due .most → (p : Parsed (List ℕ)) → onto (n ∷ []) p ≡ parsed figures next →
+        (n first : ℕ) → (at + (length (due .key) + 2) ≤ first) × (first ≤ length text) → InRange due n → (p : Parsed (List ℕ)) → onto (n ∷ []) p ≡ parsed figures next →
         ((ns : List ℕ) (last : ℕ) → p ≡ parsed ns last → Whole dues text first ns last) → Whole (due ∷ dues) text at figures next
     joined n first w r (parsed ns last) q below =
         let f : n ∷ ns ≡ figures = cc in
@@ -172,7 +185,7 @@ lines-whole (due ∷ dues) text at figures next h e = go (λ n w. lines-whole du
           as-many = let a = b .as-many in let k = ap length f in omega arith;
           on = let o = b .on in let w0 = w .0 in omega arith;
           within = let v = b .within in omega arith;
-          at-most = λ i k. rw (← f) (more-at-most due dues n ns r (b .at-most) i k);
+          ranged = λ i k. rw (← f) (more-ranged due dues n ns r (b .ranged) i k);
         }
     joined n first w r (refused number place) q below = absurd (let z : _≡_ {A = ℕ} 0 1 = cc in omega arith)
 
@@ -181,7 +194,7 @@ lines-whole (due ∷ dues) text at figures next h e = go (λ n w. lines-whole du
         line due text at ≡ p → Whole (due ∷ dues) text at figures next
     go below (parsed n first) q =
         let w = line-within due text at n first q in
-        joined n first w (line-ranged due text at n first q .1) (lines dues text first) (sym (lines-next due dues text at n first q) ∙ e) (λ ns last r. below first 0 ns last (w .1) r)
+        joined n first w (line-ranged due text at n first q) (lines dues text first) (sym (lines-next due dues text at n first q) ∙ e) (λ ns last r. below first 0 ns last (w .1) r)
     go below (refused number place) q =
         absurd (let z : refused number place ≡ parsed figures next = sym (lines-refused due dues text at number place q) ∙ e in let f : _≡_ {A = ℕ} 0 1 = cc in omega arith)
 

@@ -8,6 +8,7 @@ use Rattle.rules.specs.declared.Task.{Task}
 use Rattle.rules.specs.declared.Message.{Message}
 use Rattle.rules.specs.declared.Job.{Job}
 use Rattle.rules.specs.Words.{most-tasks, most-messages}
+use Rattle.rules.proofs.Sequences.{sum-append}
 use Rattle.jobtext.specs.declared.line.Line.{Line}
 use Rattle.jobtext.specs.declared.line.Line.the-variants.{Figure, Refused}
 use Rattle.jobtext.specs.declared.job.Outcome.{Outcome}
@@ -18,7 +19,7 @@ use Rattle.jobtext.specs.declared.job.JobRead.{JobRead}
 use Rattle.jobtext.specs.Lines.{Parsed, parsed, refused, followed, Due, lines}
 use Rattle.jobtext.specs.JobText.{head-lines, task-lines, count-lines, message-lines, times, groups, task-said, message-said, blank-task, blank-message, filled, job-said, job-text, blank-job}
 use Rattle.jobtext.specs.Answers.{line-said, outcome-said, head-said, answered, Reads, Group, AskMany}
-use Rattle.jobtext.proofs.Progress.{outcome-read, outcome-stopped, lines-whole}
+use Rattle.jobtext.proofs.Progress.{outcome-read, outcome-stopped, fewest, Whole, lines-whole}
 
 -- The head was read.
 pub record HeadRead (text : List ℕ) (number scheduling tasks next : ℕ) : Type 0 where
@@ -45,7 +46,7 @@ head-read text number scheduling tasks next e = go (lines head-lines text 0) ref
         let l : next ≡ last = cc in
         record {
           read = q ∙ (rw (l, a, b, c) (ap (λ (gs : List ℕ). parsed gs last) (three fs (whole .as-many))));
-          asked = record { within = let w = whole .within in omega arith; at-most = let m = whole .at-most 2 (omega arith) in omega arith };
+          asked = record { within = let w = whole .within in omega arith; at-most = let m = whole .ranged 2 (omega arith) .1 in omega arith };
         }
     go (refused number place) q h = absurd (let z : _≡_ {A = ℕ} 0 1 = cc in omega arith)
 
@@ -102,3 +103,52 @@ module _ (text : List ℕ) where
         whole-read ms at₄ ts-read ms-read e t v =
             let all : job-text text ≡ parsed (job-said (a ∷ b ∷ n ∷ []) ts (m ∷ []) ms) at₄ = rw (head .read, tasks, count, e) refl in
             record { answer-is = rw (all, t, v) refl; number-is = rw all refl; place-is = rw all refl }
+
+-- Every job has the lines of its head, of one task, and the count of its messages: its text is 79 bytes or longer, and ends within the text.
+
+times-fewest : (n : ℕ) (dues : List Due) → 1 ≤ n → fewest dues ≤ fewest (times n dues)
+times-fewest zero dues h = absurd (omega arith)
+times-fewest (suc n) dues h = let e = sum-append (λ (due : Due). length (due .key) + 2) dues (times n dues) in omega arith
+
+pub job-within : (text : List ℕ) (j : Job) (next : ℕ) → job-text text ≡ parsed j next → (79 ≤ next) × (next ≤ length text)
+unfolding job-text followed
+job-within text j next e = go₁ (lines head-lines text 0) refl e
+  where
+    go₄ :
+        (head tasks count : List ℕ) (at₁ at₂ at₃ : ℕ) → Whole head-lines text 0 head at₁ → Whole (times (getD head 2 0) task-lines) text at₁ tasks at₂ →
+        Whole count-lines text at₂ count at₃ → (p : Parsed (List ℕ)) → lines (times (getD count 0 0) message-lines) text at₃ ≡ p →
+        followed p (λ messages at₄. parsed (job-said head tasks count messages) at₄) ≡ parsed j next → (79 ≤ next) × (next ≤ length text)
+    go₄ head tasks count at₁ at₂ at₃ a b c (parsed ms at₄) q f =
+        let d = lines-whole (times (getD count 0 0) message-lines) text at₃ ms at₄ (c .within) q in
+        let same : at₄ ≡ next = cc in
+        let t = times-fewest (getD head 2 0) task-lines (a .ranged 2 (omega arith) .0) in
+        let o₁ = a .on in
+        let o₂ = b .on in
+        let o₃ = c .on in
+        let o₄ = d .on in
+        let w = d .within in
+        (omega arith, omega arith)
+    go₄ head tasks count at₁ at₂ at₃ a b c (refused number place) q f = absurd (let z : _≡_ {A = ℕ} 0 1 = cc in omega arith)
+
+    go₃ :
+        (head tasks : List ℕ) (at₁ at₂ : ℕ) → Whole head-lines text 0 head at₁ → Whole (times (getD head 2 0) task-lines) text at₁ tasks at₂ → (p : Parsed (List ℕ)) →
+        lines count-lines text at₂ ≡ p →
+        followed p (λ count at₃. followed (lines (times (getD count 0 0) message-lines) text at₃) (λ messages at₄. parsed (job-said head tasks count messages) at₄)) ≡ parsed j next →
+        (79 ≤ next) × (next ≤ length text)
+    go₃ head tasks at₁ at₂ a b (parsed count at₃) q f =
+        go₄ head tasks count at₁ at₂ at₃ a b (lines-whole count-lines text at₂ count at₃ (b .within) q) (lines (times (getD count 0 0) message-lines) text at₃) refl f
+    go₃ head tasks at₁ at₂ a b (refused number place) q f = absurd (let z : _≡_ {A = ℕ} 0 1 = cc in omega arith)
+
+    go₂ :
+        (head : List ℕ) (at₁ : ℕ) → Whole head-lines text 0 head at₁ → (p : Parsed (List ℕ)) → lines (times (getD head 2 0) task-lines) text at₁ ≡ p →
+        followed p (λ tasks at₂.
+        followed (lines count-lines text at₂) (λ count at₃. followed (lines (times (getD count 0 0) message-lines) text at₃) (λ messages at₄. parsed (job-said head tasks count messages) at₄)))
+        ≡ parsed j next →
+        (79 ≤ next) × (next ≤ length text)
+    go₂ head at₁ a (parsed tasks at₂) q f =
+        go₃ head tasks at₁ at₂ a (lines-whole (times (getD head 2 0) task-lines) text at₁ tasks at₂ (a .within) q) (lines count-lines text at₂) refl f
+    go₂ head at₁ a (refused number place) q f = absurd (let z : _≡_ {A = ℕ} 0 1 = cc in omega arith)
+
+    go₁ : (p : Parsed (List ℕ)) → lines head-lines text 0 ≡ p → job-text text ≡ parsed j next → (79 ≤ next) × (next ≤ length text)
+    go₁ (parsed head at₁) q f = go₂ head at₁ (lines-whole head-lines text 0 head at₁ (omega arith) q) (lines (times (getD head 2 0) task-lines) text at₁) refl (rw q at f)
+    go₁ (refused number place) q f = absurd (let y : refused number place ≡ parsed j next = rw q at f in let z : _≡_ {A = ℕ} 0 1 = cc in omega arith)

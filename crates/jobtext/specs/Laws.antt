@@ -1,17 +1,16 @@
 -- Laws of the form: that the definitions of "Job text" say what is meant.
 use mathlib.Core.Path.{_≡_}
-use mathlib.Core.Bool.{false}
+use mathlib.Core.Bool.{true}
 use mathlib.Core.List.{List, [], _∷_, _++_, map}
 use Prim.Native.Nat.{ℕ, _+_, _*_, _≤_, _<_}
-use lib.Dec.{eqb}
 use lib.ListN.{length, getD, take}
 use Rattle.rules.specs.declared.Task.{Task}
 use Rattle.rules.specs.declared.Message.{Message}
 use Rattle.rules.specs.declared.Job.{Job}
-use Rattle.rules.specs.Sequences.{any-of}
+use Rattle.rules.specs.Sequences.{all-of}
 use Rattle.rules.specs.Words.{most-tasks, most-messages, most-machines}
-use Rattle.jobtext.specs.Figures.{line-feed, value, decimal}
-use Rattle.jobtext.specs.Lines.{parsed, refused, Due, largest-figure, line, lines, written-lines}
+use Rattle.jobtext.specs.Figures.{line-feed, is-digit, value, decimal}
+use Rattle.jobtext.specs.Lines.{parsed, refused, Due, largest-figure, well-written, line, lines, written-lines}
 use Rattle.jobtext.specs.JobText.{head-lines, task-lines, count-lines, message-lines, times, blank-task, blank-message, filled, job-text}
 
 -- A job written out in the form: its lines, and its figures in their order.
@@ -42,6 +41,9 @@ written-job j = written-lines (job-lines (j .taskcount) (j .messagecount)) (job-
 -- Decimal figures: what a number's digits say is the number, and they are the only well-written digits that do.
 abbrev pub Decimal-says : Type 0
 Decimal-says = (n : ℕ) → value (decimal n) ≡ n
+
+abbrev pub Decimal-only : Type 0
+Decimal-only = (digits : List ℕ) → all-of is-digit digits ≡ true → well-written digits ≡ true → decimal (value digits) ≡ digits
 
 -- What is read, written out again in the form, is the bytes that were read.
 abbrev pub Written-again : Type 0
@@ -89,7 +91,7 @@ pub record Refusal (text : List ℕ) (number place : ℕ) : Type 0 where
   pub written-before : take place text ≡ written-lines before figures
   pub bad-there : line due text place ≡ refused number place
   pub after-no-matter :
-      (bytes rest other : List ℕ) → text ≡ take place text ++ (bytes ++ line-feed ∷ rest) → any-of (eqb line-feed) bytes ≡ false →
+      (bytes rest other : List ℕ) → text ≡ take place text ++ (bytes ++ line-feed ∷ rest) →
       job-text (take place text ++ (bytes ++ line-feed ∷ other)) ≡ refused number place
 
 abbrev pub Refused-there : Type 0

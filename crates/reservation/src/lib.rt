@@ -92,6 +92,13 @@ impl Register {
         self.count
     }
 
+    // The slots of all rows; those past the count are blank.
+    pub fn rows(self) -> [Row; 256]
+        ensures { λ r. ⌜ r ≡ self .rows ⌝ }
+    {
+        self.rows
+    }
+
     // The row at a place, or the blank row past those held.
     pub fn row(self, at: usize) -> Row
         requires { ⌜ Valid self ⌝ }

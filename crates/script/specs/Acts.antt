@@ -1,0 +1,45 @@
+-- Document 01, "The program `register`": what it reads. An act is an act line and what follows it.
+use mathlib.Core.Bool.{cond}
+use mathlib.Core.List.{List}
+use mathlib.Core.Option.{Option, none, some}
+use Prim.Native.Nat.{ℕ, zero, suc, _+_}
+use lib.Dec.{leb}
+use lib.ListN.{length, drop}
+use Rattle.rules.specs.Refusals.{Call, submits, withdraws, moves}
+use Rattle.jobtext.specs.Figures.{bytes}
+use Rattle.jobtext.specs.Lines.{Parsed, parsed, refused, any-figure, begins, line}
+use Rattle.jobtext.specs.JobText.{job-key, job-text}
+
+-- the act lines, line feed included
+abbrev pub submit-line : List ℕ
+submit-line = bytes "act=submit\n"
+
+abbrev pub withdraw-line : List ℕ
+withdraw-line = bytes "act=withdraw\n"
+
+abbrev pub clock-line : List ℕ
+clock-line = bytes "act=clock\n"
+
+abbrev pub tick-key : List ℕ
+tick-key = bytes "tick="
+
+-- What stands at a place: the ordinary end, a call and the place after it, or a reading refusal.
+pub data Act : Type 0 where
+  ended : Act
+  call : Call → (next : ℕ) → Act
+  unread : (number : ℕ) → Act
+
+-- what was read from a place on, as an act
+abbrev pub as-act : {A : Type 0} → (A → Call) → (from : ℕ) → Parsed A → Act
+as-act make from (parsed a next) = call (make a) (from + next)
+as-act make from (refused number place) = unread number
+
+-- The act at a place. 17: no act line where one is due; an ended input there is the ordinary end. A submission's job text starts after its act line.
+unfoldable pub act : (text : List ℕ) (at : ℕ) → Act
+act text at =
+    cond (leb (length text) at) ended (
+    cond (begins submit-line (drop at text)) (as-act submits (at + length submit-line) (job-text (drop (at + length submit-line) text))) (
+    cond (begins withdraw-line (drop at text)) (as-act withdraws (at + length withdraw-line) (line (any-figure job-key) (drop (at + length withdraw-line) text) 0)) (
+    cond (begins clock-line (drop at text)) (as-act moves (at + length clock-line) (line (any-figure tick-key) (drop (at + length clock-line) text) 0)) (
+    unread 17
+    ))))

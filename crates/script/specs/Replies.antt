@@ -1,0 +1,37 @@
+-- Document 01, "The program `register`": the bytes of an answer, one field a line.
+use mathlib.Core.List.{List, [], _∷_, _++_}
+use mathlib.Core.Option.{Option, none, some}
+use Prim.Native.Nat.{ℕ}
+use Rattle.rules.specs.declared.Answer.{Answer}
+use Rattle.rules.specs.Refusals.{Call, submits, withdraws, moves}
+use Rattle.jobtext.specs.Figures.{bytes, line-feed, decimal}
+
+-- a key with its equals sign, a number and a line feed
+abbrev pub field : (key : List ℕ) → ℕ → List ℕ
+field key n = key ++ decimal n ++ (line-feed ∷ [])
+
+abbrev pub answer-key : List ℕ
+answer-key = bytes "answer="
+
+abbrev pub task-key : List ℕ
+task-key = bytes "task="
+
+abbrev pub cost-key : List ℕ
+cost-key = bytes "cost="
+
+abbrev pub rows-key : List ℕ
+rows-key = bytes "rows="
+
+abbrev pub refused-key : List ℕ
+refused-key = bytes "refused="
+
+-- withdrawals and clock moves print `answer` only
+unfoldable pub reply : Call → Answer → List ℕ
+reply (submits j) a = field answer-key (a .number) ++ field task-key (a .task) ++ field cost-key (a .cost) ++ field rows-key (a .rows)
+reply (withdraws n) a = field answer-key (a .number)
+reply (moves tick) a = field answer-key (a .number)
+
+-- a reading refusal prints its number
+unfoldable pub stop-line : Option ℕ → List ℕ
+stop-line none = []
+stop-line (some number) = field refused-key number

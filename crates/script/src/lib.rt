@@ -1,0 +1,2 @@
+// The program `register` as a function on bytes: a script goes in, answers and a listing come out.
+pub mod acts;

@@ -7,8 +7,8 @@ use native.Mathlib.Omega.{arith}
 use native.Mathlib.Numerals.{add-one}
 use lib.ListN.{length, getD, take, drop, set, length-append, length-take, length-drop, length-set, take-append-drop}
 use lib.Seq.{paste, paste-zero, paste-suc, length-paste, take-length, take-suc, take-at, drop-at, drop-drop, set-at, drop-append-add, take-append-add}
-use Rattle.jobtext.specs.Figures.{decimal}
-use Rattle.jobtext.specs.Put.{overwritten, Puts}
+use Rattle.jobtext.specs.Figures.{decimal, line-feed}
+use Rattle.jobtext.specs.Put.{overwritten, Puts, field}
 use Rattle.jobtext.proofs.Decimals.{decimal-small, decimal-step, decimal-some, word-length}
 
 -- Bytes copied one by one.
@@ -184,3 +184,11 @@ module _ (old : List ℕ) (at n : ℕ) where
             ∙ ap (overwritten old at) (sym whole);
         next-is = refl;
       }
+
+-- a field's key, at most twenty digits and a line feed
+pub field-long : (key : List ℕ) (n : ℕ) → n < 2 ^ 64 → length (field key n) ≤ length key + 21
+field-long key n h =
+    let a = length-append (key ++ decimal n) (line-feed ∷ []) in
+    let b = length-append key (decimal n) in
+    let w = word-length n h in
+    omega arith

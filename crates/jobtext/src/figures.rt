@@ -1,10 +1,9 @@
 // Decimal figures and other bytes, written into a buffer from a place on.
 ghost use mathlib.Core.Path.{_≡_};
-ghost use mathlib.Core.List.{[], _∷_, _++_};
 ghost use Prim.Native.Nat.{_+_, _≤_};
 ghost use lib.ListN.{length};
-ghost use Rattle.jobtext.specs.Figures.{decimal, line-feed};
-ghost use Rattle.jobtext.specs.Put.{Puts};
+ghost use Rattle.jobtext.specs.Figures.{decimal};
+ghost use Rattle.jobtext.specs.Put.{Puts, PutsField};
 
 // The most digits that a 64-bit number has.
 pub const WIDTH: usize = 20;
@@ -62,7 +61,7 @@ pub fn put_bytes(output: &mut [u8], at: usize, bytes: &[u8]) -> usize
 // A key with its equals sign, a number and a line feed. Answers the place after them.
 pub fn put_field(output: &mut [u8], at: usize, key: &[u8], n: u64) -> usize
     requires { ⌜ at + length (now key) + 21 ≤ length (now output) ⌝ }
-    ensures { λ r. ⌜ Puts (now (output .entry)) at (now (key .entry) ++ decimal n ++ (line-feed ∷ [])) (now (output .exit)) r ⌝ }
+    ensures { λ r. ⌜ PutsField (now (output .entry)) at (now (key .entry)) n (now (output .exit)) r ⌝ }
 {
     let start = put_bytes(output, at, key);
     let end = put_figure(output, start, n);

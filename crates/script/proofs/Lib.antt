@@ -1,2 +1,5 @@
 -- Laws that the functions' proofs cite.
 pub mod Acted
+pub mod Fields
+pub mod Ordered
+pub mod Listed

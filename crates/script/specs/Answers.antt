@@ -1,21 +1,29 @@
 -- What the code's functions answer, in the words of the definitions.
 use mathlib.Core.Path.{_≡_}
-use mathlib.Core.List.{List, _∷_, []}
+use mathlib.Core.List.{List, _∷_, [], map, List·Memᴰ}
 use Prim.Native.Nat.{ℕ, _+_, _*_, _≤_, _<_}
+use lib.Dec.{ltb}
 use lib.ListN.{length, getD, take}
+use Rattle.rules.specs.declared.Holder.{Holder}
+use Rattle.rules.specs.declared.Holder.the-variants.{TaskOn, MessageOn}
+use Rattle.rules.specs.declared.Job.{Job}
 use Rattle.rules.specs.declared.Row.{Row}
 use Rattle.rules.specs.declared.Answer.{Answer}
 use Rattle.rules.specs.Placing.{no-row}
 use Rattle.rules.specs.Words.{row-limit}
 use Rattle.reservation.specs.declared.calls.Call.{Call}
 use Rattle.reservation.specs.declared.calls.Kind.{Kind}
+use Rattle.reservation.specs.declared.calls.Kind.the-variants.{Submit, Withdraw, Clock}
 use Rattle.reservation.specs.declared.Register.{Register}
 use Rattle.reservation.specs.Registers.{Valid}
-use Rattle.reservation.specs.Chains.{call-of}
+use Rattle.reservation.specs.Chains.{kind-of, call-of}
+use Rattle.jobtext.specs.Put.{Puts}
 use Rattle.script.specs.declared.acts.Turn.{Turn}
 use Rattle.script.specs.declared.acts.Turn.the-variants.{Ended, Called, Unread}
 use Rattle.script.specs.declared.acts.NextAct.{NextAct}
 use Rattle.script.specs.Acts.{Act, ended, call, unread, act}
+use Rattle.script.specs.Replies.{reply}
+use Rattle.script.specs.Listing.{insert-before, sorted}
 
 -- the act that a turn of the code is; its call stands beside it
 abbrev pub turn-act : Turn → Call → Act
@@ -25,3 +33,83 @@ turn-act (Unread number) c = unread number
 
 abbrev pub act-said : NextAct → Act
 act-said r = turn-act (r .turn) (r .call)
+
+-- bytes written, and how many they are at the most
+pub record PutsAtMost (old : List ℕ) (at : ℕ) (bytes new : List ℕ) (next most : ℕ) : Type 0 where
+  pub puts : Puts old at bytes new next
+  pub short : length bytes ≤ most
+
+-- the most bytes that a reply, a row, and a listing take
+abbrev pub most-reply : ℕ
+most-reply = 106
+
+-- that of a withdrawal or a clock move has one field
+abbrev pub most-answer : ℕ
+most-answer = 28
+
+abbrev pub most-for : Kind → ℕ
+most-for Submit = most-reply
+most-for (Withdraw number) = most-answer
+most-for (Clock tick) = most-answer
+
+-- what the reply to a call of a kind writes; a submission's job is not printed
+abbrev pub ReplyPuts : (old : List ℕ) (at : ℕ) → Kind → Answer → (new : List ℕ) (next : ℕ) → Type 0
+ReplyPuts old at kind answer new next = (job : Job) → PutsAtMost old at (reply (kind-of kind job) answer) new next (most-for kind)
+
+abbrev pub most-heading : ℕ
+most-heading = 80
+
+abbrev pub most-row : ℕ
+most-row = 182
+
+abbrev pub most-listing : ℕ
+most-listing = most-heading + row-limit * most-row
+
+-- The listing's order by numbers: a row's resource, its start and its place in the register as one number.
+
+abbrev pub resource-code : Holder → ℕ
+resource-code (TaskOn m t) = m
+resource-code (MessageOn a b s r) = 8 * a + b
+
+abbrev pub order-number : Row → (place : ℕ) → ℕ
+order-number row place = (resource-code (row .holder) * 4_294_967_296 + row .start) * 256 + place
+
+-- machines and starts that the number has room for
+pub data Coded : Holder → Type 0 where
+  task : {m t : ℕ} → m < 8 → Coded (TaskOn m t)
+  message : {a b s r : ℕ} → 1 ≤ a → a < 8 → b < 8 → Coded (MessageOn a b s r)
+
+pub record AskCode (row : Row) (place : ℕ) : Type 0 where
+  pub holder : Coded (row .holder)
+  pub start : row .start < 4_294_967_296
+  pub place-below : place < 256
+
+abbrev pub insert-number : ℕ → List ℕ → List ℕ
+insert-number n ns = insert-before (λ m. ltb n m) n ns
+
+-- there is room for a key more
+pub record AskKeys (keys : List ℕ) (count : ℕ) : Type 0 where
+  pub long : length keys ≡ row-limit
+  pub room : count < row-limit
+
+-- the keys of the rows are in order, and each says the place of its row
+pub record OrderIs (rows : List Row) (count : ℕ) (keys : List ℕ) : Type 0 where
+  pub places : List ℕ
+  pub places-below : (k : ℕ) → List·Memᴰ k places → k < count
+  pub long : length keys ≡ row-limit
+  pub keys-are : take count keys ≡ map (λ k. order-number (getD rows k no-row) k) places
+  pub rows-are : map (λ k. getD rows k no-row) places ≡ sorted (take count rows)
+
+pub record AskOrder (rows : List Row) (count : ℕ) : Type 0 where
+  pub long : length rows ≡ row-limit
+  pub at-most : count ≤ row-limit
+  pub coded : (i : ℕ) → i < count → AskCode (getD rows i no-row) i
+
+-- what is asked where rows are listed
+pub record AskRows (rows : List Row) (count : ℕ) (output : List ℕ) (at : ℕ) : Type 0 where
+  pub order : AskOrder rows count
+  pub room : at + row-limit * most-row ≤ length output
+
+pub record AskListing (r : Register) (output : List ℕ) (at : ℕ) : Type 0 where
+  pub valid : Valid r
+  pub room : at + most-listing ≤ length output

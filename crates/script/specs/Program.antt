@@ -12,8 +12,9 @@ use Rattle.rules.specs.Words.{State, fresh}
 use Rattle.rules.specs.Refusals.{Call, step, answers, after}
 use Rattle.rules.specs.Journal.{Journal, empty, journal-step, rows-in, journal-total}
 use Rattle.rules.specs.Demands.{journal-left, Demand3}
+use Rattle.jobtext.specs.Put.{field}
 use Rattle.script.specs.Acts.{ended, call, unread, act}
-use Rattle.script.specs.Replies.{field, refused-key, reply, stop-line}
+use Rattle.script.specs.Replies.{refused-key, reply, stop-line}
 use Rattle.script.specs.Listing.{listing}
 
 -- The calls of a script in their order, and the reading refusal that ended it, if one did.

@@ -1,14 +1,11 @@
 -- Document 01, "The program `register`": the bytes of an answer, one field a line.
-use mathlib.Core.List.{List, [], _∷_, _++_}
+use mathlib.Core.List.{List, [], _++_}
 use mathlib.Core.Option.{Option, none, some}
 use Prim.Native.Nat.{ℕ}
 use Rattle.rules.specs.declared.Answer.{Answer}
 use Rattle.rules.specs.Refusals.{Call, submits, withdraws, moves}
-use Rattle.jobtext.specs.Figures.{bytes, line-feed, decimal}
-
--- a key with its equals sign, a number and a line feed
-abbrev pub field : (key : List ℕ) → ℕ → List ℕ
-field key n = key ++ decimal n ++ (line-feed ∷ [])
+use Rattle.jobtext.specs.Figures.{bytes}
+use Rattle.jobtext.specs.Put.{field}
 
 abbrev pub answer-key : List ℕ
 answer-key = bytes "answer="

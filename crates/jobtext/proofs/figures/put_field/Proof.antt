@@ -8,7 +8,7 @@ use borrow.Author.Needs.{needs}
 use Rattle.jobtext.specs.Figures.{decimal}
 use Rattle.jobtext.specs.Put.{Puts}
 use Rattle.jobtext.proofs.Decimals.{word-length}
-use Rattle.jobtext.proofs.Put.{puts-then, put-byte}
+use Rattle.jobtext.proofs.Put.{puts-then, put-byte, field-long}
 use Rattle.jobtext.proofs.figures.put_field.Statement.{statement}
 use Rattle.jobtext.proofs.figures.put_field.Tie as tie
 
@@ -45,7 +45,11 @@ same-length : tie.Need-same-length
 same-length c = length-set (c .before .before .put-figure .last .0) (c .before .before .put-figure .result) 10 ∙ last-long c
 
 returns : tie.Need-returns
-returns c = puts-then (omega (arith, c .before .before .before .before .before .before .before .before .before .before .pre)) (two c) (put-byte (c .before .before .put-figure .last .0) (c .before .before .put-figure .result) 10 (fits c))
+returns c =
+    record {
+      puts = puts-then (omega (arith, c .before .before .before .before .before .before .before .before .before .before .pre)) (two c) (put-byte (c .before .before .put-figure .last .0) (c .before .before .put-figure .result) 10 (fits c));
+      short = field-long (c .before .before .before .before .before .before .before .before .before .before .args .key .now) (c .before .before .before .before .before .before .before .before .before .before .args .n) (c .before .before .before .before .before .before .before .before .before .before .fits .n .fits);
+    }
 
 pub put-field-spec : {M : Type 1} → statement M
 put-field-spec =

@@ -1,0 +1,172 @@
+-- Rows listed one by one, and what a valid register gives the listing.
+use mathlib.Core.Path.{_≡_, refl, sym, ap, _∙_, subst}
+use mathlib.Core.List.{List, [], _∷_, _++_, map, append-assoc, append-nil, List·Memᴰ}
+use Prim.Native.Nat.{ℕ, zero, suc, _+_, _*_, _%_, _≤_, _<_}
+use native.Mathlib.Omega.{arith}
+use native.Mathlib.Numerals.{add-one}
+use lib.ListN.{length, getD, take, length-append, length-take, length-map, List·getD-map}
+use lib.Seq.{take-suc, getD-take, take-all}
+use Rattle.rules.specs.declared.Holder.{Holder}
+use Rattle.rules.specs.declared.Holder.the-variants.{TaskOn, MessageOn}
+use Rattle.rules.specs.declared.Row.{Row}
+use Rattle.rules.specs.declared.Setup.{Setup}
+use Rattle.rules.specs.Words.{row-limit}
+use Rattle.rules.specs.Placing.{no-row}
+use Rattle.rules.specs.Bounds.{Listed, RowInRange}
+use Rattle.rules.specs.Bounds as Bounds
+use Rattle.rules.proofs.Sequences.{getD-mem}
+use Rattle.reservation.specs.declared.Register.{Register}
+use Rattle.reservation.specs.Registers.{state-of, Valid}
+use Rattle.jobtext.specs.Laws.{joined}
+use Rattle.jobtext.specs.Put.{Puts, field}
+use Rattle.jobtext.proofs.Put.{put-none, puts-then, puts-long}
+use Rattle.script.specs.Listing.{clock-key, total-key, held-key, row-bytes, sorted, heading, listing}
+use Rattle.script.specs.Answers.{Coded, task, message, AskCode, AskOrder, OrderIs, order-number, PutsAtMost, most-row}
+use Rattle.script.proofs.Fields.{Within, within-none, within-then, within-next, within-room}
+use Rattle.script.proofs.Ordered.{key-place}
+
+joined-append : (a b : List (List ℕ)) → joined (a ++ b) ≡ joined a ++ joined b
+joined-append [] b = refl
+joined-append (x ∷ a) b = ap (λ l. x ++ l) (joined-append a b) ∙ sym (append-assoc x (joined a) (joined b))
+
+map-append : {A B : Type 0} (f : A → B) (a b : List A) → map f (a ++ b) ≡ map f a ++ map f b
+map-append f [] b = refl
+map-append f (x ∷ a) b = ap (λ l. f x ∷ l) (map-append f a b)
+
+-- one row more
+listed-suc : (l : List Row) (k : ℕ) → k < length l → joined (map row-bytes (take (suc k) l)) ≡ joined (map row-bytes (take k l)) ++ row-bytes (getD l k no-row)
+listed-suc l k h =
+    ap (λ t. joined (map row-bytes t)) (take-suc l k no-row h)
+    ∙ ap joined (map-append row-bytes (take k l) (getD l k no-row ∷ []))
+    ∙ joined-append (map row-bytes (take k l)) (map row-bytes (getD l k no-row ∷ []))
+    ∙ ap (λ t. joined (map row-bytes (take k l)) ++ t) (append-nil (row-bytes (getD l k no-row)))
+
+getD-map-in : {A B : Type 0} (f : A → B) (l : List A) (k : ℕ) (d : B) (e : A) → k < length l → getD (map f l) k d ≡ f (getD l k e)
+getD-map-in f [] k d e h = absurd (omega arith)
+getD-map-in f (x ∷ l) zero d e h = refl
+getD-map-in f (x ∷ l) (suc k) d e h = getD-map-in f l k d e (omega arith)
+
+-- k rows of those in order are listed
+pub record RowsListed (old : List ℕ) (at : ℕ) (rows : List Row) (count : ℕ) (new : List ℕ) (next k : ℕ) : Type 0 where
+  pub within : Within old at (joined (map row-bytes (take k (sorted (take count rows))))) new next (k * most-row)
+  pub at-most : k ≤ count
+
+module _ (old : List ℕ) (at : ℕ) (rows : List Row) (count : ℕ) (keys : List ℕ) (w : OrderIs rows count keys) (few : count ≤ row-limit) (long : length rows ≡ row-limit) (room : at + row-limit * most-row ≤ length old) where
+  abbrev row-at : ℕ → Row
+  row-at k = getD rows k no-row
+
+  places-long : length (w .places) ≡ count
+  places-long =
+      let a : length (w .places) ≡ length (take count keys) = sym (ap length (w .keys-are) ∙ length-map (w .places) (λ k. order-number (row-at k) k)) in
+      let b = length-take count keys in
+      let c = w .long in
+      omega arith
+
+  abbrev in-order : List Row
+  in-order = sorted (take count rows)
+
+  sorted-long : length in-order ≡ count
+  sorted-long = sym (ap length (w .rows-are)) ∙ length-map (w .places) row-at ∙ places-long
+
+  -- the key at k gives the row that stands there in order
+  module _ (k : ℕ) (h : k < count) where
+    abbrev place-at : ℕ
+    place-at = getD (w .places) k 0
+
+    place-below : place-at < count
+    place-below = w .places-below place-at (getD-mem (w .places) k 0 (let l = places-long in omega arith))
+
+    pub place-is : getD keys k 0 % 256 ≡ place-at
+    place-is =
+        ap
+        (λ n. n % 256)
+        (sym (getD-take count keys k 0 h) ∙ ap (λ l. getD l k 0) (w .keys-are) ∙ getD-map-in (λ n. order-number (row-at n) n) (w .places) k 0 0 (let l = places-long in omega arith))
+        ∙ key-place (row-at place-at) place-at (let b = place-below in omega arith)
+
+    pub row-there : row-at place-at ≡ getD in-order k no-row
+    row-there = sym (getD-map-in row-at (w .places) k no-row 0 (let l = places-long in omega arith)) ∙ ap (λ l. getD l k no-row) (w .rows-are)
+
+    pub place-within : getD keys k 0 % 256 < 256
+    place-within = omega arith
+
+  pub rows-none : RowsListed old at rows count old at 0
+  rows-none = record { within = within-none (omega arith); at-most = omega arith }
+
+  pub row-room : (new : List ℕ) (next k : ℕ) → k < count → RowsListed old at rows count new next k → next + most-row ≤ length new
+  row-room new next k h l = within-room most-row (omega arith) (l .within)
+
+  pub rows-more :
+      (new : List ℕ) (next k : ℕ) → k < count → RowsListed old at rows count new next k → (new′ : List ℕ) (last : ℕ) →
+      PutsAtMost new next (row-bytes (row-at (getD keys k 0 % 256))) new′ last most-row → RowsListed old at rows count new′ last (k + 1)
+  rows-more new next k h l new′ last p =
+      let row : row-at (getD keys k 0 % 256) ≡ getD in-order k no-row = ap row-at (place-is k h) ∙ row-there k h in
+      let q : PutsAtMost new next (row-bytes (getD in-order k no-row)) new′ last most-row = subst (λ r. PutsAtMost new next (row-bytes r) new′ last most-row) row p in
+      let more = within-then (row-bytes (getD in-order k no-row)) most-row (omega arith) (l .within) (q .puts) (q .short) in
+      let size : k * most-row + most-row ≡ (k + 1) * most-row = omega arith in
+      let bytes : joined (map row-bytes (take k in-order)) ++ row-bytes (getD in-order k no-row) ≡ joined (map row-bytes (take (k + 1) in-order)) =
+      sym (ap (λ n. joined (map row-bytes (take n in-order))) (add-one k) ∙ listed-suc in-order k (let s = sorted-long in omega arith))
+      in
+      record {
+        within = subst (λ n. Within old at (joined (map row-bytes (take (k + 1) in-order))) new′ last n) size (subst (λ b. Within old at b new′ last (k * most-row + most-row)) bytes more);
+        at-most = omega arith;
+      }
+
+  pub rows-all : (new : List ℕ) (next k : ℕ) → count ≤ k → RowsListed old at rows count new next k → Puts old at (joined (map row-bytes in-order)) new next
+  rows-all new next k h l =
+      let all : take k in-order ≡ in-order = take-all k in-order (let s = sorted-long in omega arith) in
+      subst (λ t. Puts old at (joined (map row-bytes t)) new next) all (l .within .puts)
+
+-- What a valid register gives.
+
+machines-coded : (s : Setup) (h : Holder) → s .table .machines ≤ 4 → Listed s h → Coded h
+machines-coded s (TaskOn m t) room (Bounds.task a b) = let small : m < 8 = let f = a .last in omega arith in task small
+machines-coded s (MessageOn a b x y) room (Bounds.message c d e f) =
+    let source : a < 8 = let g = c .last in omega arith in
+    let target : b < 8 = let g = d .last in omega arith in
+    message (c .first) source target
+
+pub valid-order : (r : Register) → Valid r → AskOrder (r .rows) (r .count)
+valid-order r valid =
+    record {
+      long = valid .long;
+      at-most = valid .count-at-most;
+      coded = λ i h.
+          let long = valid .long in
+          let few = valid .count-at-most in
+          let there : i < length (take (r .count) (r .rows)) = let l = length-take (r .count) (r .rows) in omega arith in
+          let same = getD-take (r .count) (r .rows) i no-row h in
+          let row : RowInRange (r .setup) (getD (r .rows) i no-row) =
+          subst (RowInRange (r .setup)) same (valid .bounded .rows (getD (take (r .count) (r .rows)) i no-row) (getD-mem (take (r .count) (r .rows)) i no-row there))
+          in
+          let lasts = row .lasts in
+          let ends = row .ends in
+          record {
+            holder = machines-coded (r .setup) (getD (r .rows) i no-row .holder) (valid .sound .room) (row .holder);
+            start = omega arith;
+            place-below = omega arith;
+          };
+    }
+
+-- A whole listing, from the figures that the register's accessors answer.
+module _
+    (r : Register) (valid : Valid r) (clock total count : ℕ) (rows : List Row) (e-clock : clock ≡ r .clock) (e-total : total ≡ r .total) (e-count : count ≡ r .count)
+    (e-rows : rows ≡ r .rows)
+  where
+    pub rows-asked : AskOrder rows count
+    rows-asked = subst (λ n. AskOrder rows n) (sym e-count) (subst (λ l. AskOrder l (r .count)) (sym e-rows) (valid-order r valid))
+
+    pub whole-listing :
+        {old : List ℕ} {at : ℕ} {mid : List ℕ} {next : ℕ} {new : List ℕ} {last : ℕ} → at ≤ length old →
+        Puts old at (field clock-key clock ++ field total-key total ++ field held-key count) mid next → Puts mid next (joined (map row-bytes (sorted (take count rows)))) new last →
+        Puts old at (listing (state-of r)) new last
+    unfolding listing
+    whole-listing {old} {at} {mid} {next} {new} {last} h p q =
+        let held : count ≡ length (take (r .count) (r .rows)) =
+        let l = length-take (r .count) (r .rows) in
+        let long = valid .long in
+        let few = valid .count-at-most in
+        omega arith
+        in
+        let head : field clock-key clock ++ field total-key total ++ field held-key count ≡ heading (state-of r) = rw (e-clock, e-total, held) refl in
+        let body : joined (map row-bytes (sorted (take count rows))) ≡ joined (map row-bytes (sorted (take (r .count) (r .rows)))) = rw (e-count, e-rows) refl in
+        puts-then h (subst (λ b. Puts old at b mid next) head p) (subst (λ b. Puts mid next b new last) body q)

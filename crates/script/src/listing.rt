@@ -1,0 +1,104 @@
+// The listing: clock, total, held, then the rows by machine and start, and by link and start.
+use crate::order::order_of;
+use jobtext::figures::put_field;
+use reservation::Register;
+use rules::Holder;
+use rules::Row;
+ghost use mathlib.Core.List.{_++_};
+ghost use mathlib.Core.List.{map};
+ghost use Prim.Native.Nat.{_+_, _≤_};
+ghost use lib.ListN.{length, take};
+ghost use Rattle.reservation.specs.Registers.{state-of};
+ghost use Rattle.jobtext.specs.JobText.{job-key, from-key, to-key};
+ghost use Rattle.jobtext.specs.Laws.{joined};
+ghost use Rattle.jobtext.specs.Put.{Puts, field};
+ghost use Rattle.script.specs.Replies.{task-key};
+ghost use Rattle.script.specs.Listing.{clock-key, total-key, held-key, machine-key, link-key, start-key, finish-key, row-bytes, sorted, listing};
+ghost use Rattle.script.specs.Answers.{PutsAtMost, most-heading, most-row, most-listing, AskRows, AskListing};
+
+fn put_heading(output: &mut [u8], at: usize, clock: u64, total: u64, held: u64) -> usize
+    requires { ⌜ at + most-heading ≤ length (now output) ⌝ }
+    ensures { λ r. ⌜ PutsAtMost (now (output .entry)) at (field clock-key clock ++ field total-key total ++ field held-key held) (now (output .exit)) r most-heading ⌝ }
+{
+    let at1 = put_field(output, at, b"clock=", clock);
+    let at2 = put_field(output, at1, b"total=", total);
+    put_field(output, at2, b"held=", held)
+}
+
+fn put_task_row(output: &mut [u8], at: usize, machine: u64, task: u64, row: Row) -> usize
+    requires { ⌜ at + most-row ≤ length (now output) ⌝ }
+    ensures { λ r. ⌜ PutsAtMost (now (output .entry)) at (field machine-key machine ++ field job-key (row .job) ++ field task-key task ++ field start-key (row .start) ++ field finish-key (row .finish)) (now (output .exit)) r most-row ⌝ }
+{
+    let at1 = put_field(output, at, b"machine=", machine);
+    let at2 = put_field(output, at1, b"job=", row.job);
+    let at3 = put_field(output, at2, b"task=", task);
+    let at4 = put_field(output, at3, b"start=", row.start);
+    put_field(output, at4, b"finish=", row.finish)
+}
+
+fn put_message_row(
+    output: &mut [u8],
+    at: usize,
+    source: u64,
+    target: u64,
+    sender: u64,
+    receiver: u64,
+    row: Row,
+) -> usize
+    requires { ⌜ at + most-row ≤ length (now output) ⌝ }
+    ensures { λ r. ⌜ PutsAtMost (now (output .entry)) at (field link-key source ++ field to-key target ++ field job-key (row .job) ++ field from-key sender ++ field task-key receiver ++ field start-key (row .start) ++ field finish-key (row .finish)) (now (output .exit)) r most-row ⌝ }
+{
+    let at1 = put_field(output, at, b"link=", source);
+    let at2 = put_field(output, at1, b"to=", target);
+    let at3 = put_field(output, at2, b"job=", row.job);
+    let at4 = put_field(output, at3, b"from=", sender);
+    let at5 = put_field(output, at4, b"task=", receiver);
+    let at6 = put_field(output, at5, b"start=", row.start);
+    put_field(output, at6, b"finish=", row.finish)
+}
+
+fn put_row(output: &mut [u8], at: usize, row: Row) -> usize
+    requires { ⌜ at + most-row ≤ length (now output) ⌝ }
+    ensures { λ r. ⌜ PutsAtMost (now (output .entry)) at (row-bytes row) (now (output .exit)) r most-row ⌝ }
+{
+    let holder = row.holder;
+    match holder {
+        Holder::TaskOn { machine, task } => put_task_row(output, at, machine, task, row),
+        Holder::MessageOn {
+            source,
+            target,
+            sender,
+            receiver,
+        } => put_message_row(output, at, source, target, sender, receiver, row),
+    }
+}
+
+// The rows in their order. A key's last eight bits are the place of its row.
+fn put_rows(output: &mut [u8], at: usize, rows: [Row; 256], count: usize) -> usize
+    requires { ⌜ AskRows rows count (now output) at ⌝ }
+    ensures { λ r. ⌜ Puts (now (output .entry)) at (joined (map row-bytes (sorted (take count rows)))) (now (output .exit)) r ⌝ }
+{
+    let keys = order_of(rows, count);
+    let mut next = at;
+    let mut k = 0;
+    while k < count {
+        let key = keys[k];
+        let place = (key % 256) as usize;
+        let row = rows[place];
+        next = put_row(output, next, row);
+        k += 1;
+    }
+    next
+}
+
+pub fn put_listing(output: &mut [u8], at: usize, register: Register) -> usize
+    requires { ⌜ AskListing register (now output) at ⌝ }
+    ensures { λ r. ⌜ Puts (now (output .entry)) at (listing (state-of register)) (now (output .exit)) r ⌝ }
+{
+    let clock = register.clock();
+    let total = register.total();
+    let count = register.count();
+    let rows = register.rows();
+    let start = put_heading(output, at, clock, total, count as u64);
+    put_rows(output, start, rows, count)
+}

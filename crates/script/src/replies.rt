@@ -1,0 +1,32 @@
+// The bytes of an answer, one field a line.
+use jobtext::figures::put_field;
+use reservation::calls::Kind;
+use rules::Answer;
+ghost use Prim.Native.Nat.{_+_, _≤_};
+ghost use lib.ListN.{length};
+ghost use mathlib.Core.List.{_++_};
+ghost use Rattle.jobtext.specs.Put.{field};
+ghost use Rattle.script.specs.Replies.{answer-key, task-key, cost-key, rows-key};
+ghost use Rattle.script.specs.Answers.{PutsAtMost, ReplyPuts, most-reply};
+
+fn put_submitted(output: &mut [u8], at: usize, answer: Answer) -> usize
+    requires { ⌜ at + most-reply ≤ length (now output) ⌝ }
+    ensures { λ r. ⌜ PutsAtMost (now (output .entry)) at (field answer-key (answer .number) ++ field task-key (answer .task) ++ field cost-key (answer .cost) ++ field rows-key (answer .rows)) (now (output .exit)) r most-reply ⌝ }
+{
+    let at1 = put_field(output, at, b"answer=", answer.number);
+    let at2 = put_field(output, at1, b"task=", answer.task);
+    let at3 = put_field(output, at2, b"cost=", answer.cost);
+    put_field(output, at3, b"rows=", answer.rows)
+}
+
+// Withdrawals and clock moves print `answer` only.
+pub fn put_reply(output: &mut [u8], at: usize, kind: Kind, answer: Answer) -> usize
+    requires { ⌜ at + most-reply ≤ length (now output) ⌝ }
+    ensures { λ r. ⌜ ReplyPuts (now (output .entry)) at kind answer (now (output .exit)) r ⌝ }
+{
+    match kind {
+        Kind::Submit => put_submitted(output, at, answer),
+        Kind::Withdraw(_) => put_field(output, at, b"answer=", answer.number),
+        Kind::Clock(_) => put_field(output, at, b"answer=", answer.number),
+    }
+}

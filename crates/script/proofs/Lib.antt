@@ -3,3 +3,4 @@ pub mod Acted
 pub mod Fields
 pub mod Ordered
 pub mod Listed
+pub mod Running

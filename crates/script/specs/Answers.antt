@@ -3,14 +3,15 @@ use mathlib.Core.Path.{_≡_}
 use mathlib.Core.List.{List, _∷_, [], map, List·Memᴰ}
 use Prim.Native.Nat.{ℕ, _+_, _*_, _≤_, _<_}
 use lib.Dec.{ltb}
-use lib.ListN.{length, getD, take}
+use mathlib.Core.Option.{Option, none, some}
+use lib.ListN.{length, getD, take, drop}
 use Rattle.rules.specs.declared.Holder.{Holder}
 use Rattle.rules.specs.declared.Holder.the-variants.{TaskOn, MessageOn}
 use Rattle.rules.specs.declared.Job.{Job}
 use Rattle.rules.specs.declared.Row.{Row}
 use Rattle.rules.specs.declared.Answer.{Answer}
 use Rattle.rules.specs.Placing.{no-row}
-use Rattle.rules.specs.Words.{row-limit}
+use Rattle.rules.specs.Words.{row-limit, default-setup}
 use Rattle.reservation.specs.declared.calls.Call.{Call}
 use Rattle.reservation.specs.declared.calls.Kind.{Kind}
 use Rattle.reservation.specs.declared.calls.Kind.the-variants.{Submit, Withdraw, Clock}
@@ -24,6 +25,7 @@ use Rattle.script.specs.declared.acts.NextAct.{NextAct}
 use Rattle.script.specs.Acts.{Act, ended, call, unread, act}
 use Rattle.script.specs.Replies.{reply}
 use Rattle.script.specs.Listing.{insert-before, sorted}
+use Rattle.script.specs.Program.{input-limit, program}
 
 -- the act that a turn of the code is; its call stands beside it
 abbrev pub turn-act : Turn → Call → Act
@@ -113,3 +115,31 @@ pub record AskRows (rows : List Row) (count : ℕ) (output : List ℕ) (at : ℕ
 pub record AskListing (r : Register) (output : List ℕ) (at : ℕ) : Type 0 where
   pub valid : Valid r
   pub room : at + most-listing ≤ length output
+
+-- the reading refusal with which a turn ends a script, if it does
+abbrev pub stop-of : Turn → Option ℕ
+stop-of Ended = none
+stop-of (Called next) = none
+stop-of (Unread number) = some number
+
+abbrev pub most-stop : ℕ
+most-stop = 29
+
+-- the output buffer is large enough for every input: two bytes for each byte read, the reading refusal, and the listing
+abbrev pub output-size : ℕ
+output-size = 184_320
+
+pub record AskFinish (r : Register) (output : List ℕ) (at : ℕ) : Type 0 where
+  pub valid : Valid r
+  pub room : at + (most-stop + most-listing) ≤ length output
+
+pub record AskCalls (input output : List ℕ) : Type 0 where
+  pub few : length input ≤ input-limit
+  pub room : length output ≡ output-size
+
+-- `run`: the bytes of the program stand from the buffer's start on, and the rest of it is untouched.
+pub record Runs (input old new : List ℕ) (count : ℕ) : Type 0 where
+  pub written : take count new ≡ program default-setup input
+  pub count-is : count ≡ length (program default-setup input)
+  pub untouched : drop count new ≡ drop count old
+  pub fits : count ≤ output-size

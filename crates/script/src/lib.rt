@@ -3,3 +3,75 @@ pub mod acts;
 pub mod listing;
 mod order;
 pub mod replies;
+
+use acts::Turn;
+use acts::next_act;
+use jobtext::figures::put_field;
+use listing::put_listing;
+use replies::put_reply;
+use reservation::Register;
+ghost use mathlib.Core.List.{_++_};
+ghost use Rattle.rules.specs.Words.{fresh, default-setup};
+ghost use Rattle.reservation.specs.Registers.{state-of};
+ghost use Rattle.jobtext.specs.Put.{Puts};
+ghost use Rattle.script.specs.Replies.{stop-line};
+ghost use Rattle.script.specs.Listing.{listing};
+ghost use Rattle.script.specs.Program.{script, printed};
+ghost use Rattle.script.specs.Answers.{stop-of, AskFinish, AskCalls, Runs};
+
+// The largest input, and an output buffer that is large enough for every input.
+pub const INPUT: usize = 65_536;
+
+pub const OUTPUT: usize = 184_320;
+
+// The end of a script: its reading refusal, if there was one, and the listing.
+fn finish(output: &mut [u8], at: usize, turn: Turn, register: Register) -> usize
+    requires { ⌜ AskFinish register (now output) at ⌝ }
+    ensures { λ r. ⌜ Puts (now (output .entry)) at (stop-line (stop-of turn) ++ listing (state-of register)) (now (output .exit)) r ⌝ }
+{
+    match turn {
+        Turn::Unread(number) => {
+            let start = put_field(output, at, b"refused=", number);
+            put_listing(output, start, register)
+        }
+        Turn::Ended => put_listing(output, at, register),
+        Turn::Called(_) => put_listing(output, at, register),
+    }
+}
+
+// The calls of a script in their order, each answered before the next is read.
+fn run_calls(input: &[u8], output: &mut [u8]) -> usize
+    requires { ⌜ AskCalls (now input) (now output) ⌝ }
+    ensures { λ r. ⌜ Puts (now (output .entry)) 0 (printed default-setup fresh (script (now (input .entry)))) (now (output .exit)) r ⌝ }
+{
+    let mut register = Register::new();
+    let mut at = 0;
+    let mut end = 0;
+    while at < input.len() {
+        let act = next_act(input, at);
+        let turn = act.turn;
+        let Turn::Called(next) = turn else {
+            return finish(output, end, turn, register);
+        };
+        let call = act.call;
+        let kind = call.kind;
+        let reply = register.apply(call);
+        let answer = reply.answer;
+        end = put_reply(output, end, kind, answer);
+        let left = reply.register;
+        register = left;
+        at = next;
+    }
+    put_listing(output, end, register)
+}
+
+// Writes what the program `register` prints for an input, and answers how many bytes that is.
+pub fn run(input: &[u8], output: &mut [u8; OUTPUT]) -> usize
+    ensures { λ r. ⌜ Runs (now (input .entry)) (now (output .entry)) (now (output .exit)) r ⌝ }
+{
+    if INPUT < input.len() {
+        let start = put_field(output, 0, b"refused=", 19);
+        return put_listing(output, start, Register::new());
+    }
+    run_calls(input, output)
+}

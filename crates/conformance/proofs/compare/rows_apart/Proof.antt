@@ -1,0 +1,28 @@
+-- `conformance::compare::rows_apart` is safe and ends: its loop has a turn for each of the 256 rows.
+use Prim.Native.Nat.{_≤_, _-_}
+use borrow.Author.Needs.{needs}
+use Rattle.conformance.proofs.compare.rows_apart.Statement.{statement}
+use Rattle.conformance.proofs.compare.rows_apart.Tie as tie
+
+abbrev Inv-loop : tie.InvT-loop
+Inv-loop ours count theirs apart₀ i₀ apart i = i ≤ 256
+
+abbrev μ-loop : tie.MeasureT-loop
+μ-loop ours count theirs apart₀ i₀ apart i = 256 - i
+
+pub rows-apart-spec : {M : Type 1} → statement M
+rows-apart-spec =
+    tie.close
+    (tie.spec
+    Inv-loop
+    μ-loop
+    (λ c. search needs)  -- loop-holds
+    (λ c κs. search needs)  -- row-requires
+    (λ c. search needs)  -- mul-same-row
+    (λ c. search needs)  -- element-copy-out-same-row
+    (λ c κs. search needs)  -- same-row-requires
+    (λ c κs. search needs)  -- plus-requires
+    (λ c. search needs)  -- add-i
+    (λ c. search needs)  -- loop-less
+    (λ c. search needs)  -- loop-again
+    (λ c. search needs))  -- returns

@@ -4,3 +4,5 @@ pub mod Fields
 pub mod Ordered
 pub mod Listed
 pub mod Running
+pub mod Demand3
+pub mod Sorted

@@ -3,4 +3,5 @@ pub mod Acts
 pub mod Replies
 pub mod Listing
 pub mod Program
+pub mod Laws
 pub mod Answers

@@ -1,15 +1,17 @@
 #!/usr/bin/env python3
 """Writes the cases of the program `register` to standard output.
 
-    make.py > cases          the container
+    make.py > ../../crates/cases/stdin    the container, which the program `cases` reads
     make.py --names          the number and name of each case, one a line
 
 The container holds, for each case in a row: `script=N`, a line feed, N bytes
 of script, `output=M`, a line feed, M bytes of the output that is due. No
 program is run to find an output: each is composed here, by hand or from the
-kind of damage done to the script.
+kind of damage done to the script, and the scripts of examples/ have theirs
+beside them.
 """
 
+import pathlib
 import sys
 
 LIMIT = 65536
@@ -728,6 +730,12 @@ def length():
     case("65,537 bytes", over, refused(19) + FRESH)
 
 
+def examples():
+    folder = pathlib.Path(__file__).resolve().parents[2] / "examples"
+    for script in sorted(folder.glob("*.script")):
+        case(f"examples/{script.name}", script.read_bytes(), script.with_suffix(".out").read_bytes())
+
+
 def main():
     for group in (
         empty_and_single_calls,
@@ -741,6 +749,7 @@ def main():
         counts,
         nothing_after,
         length,
+        examples,
     ):
         group()
     if sys.argv[1:] == ["--names"]:

@@ -5,6 +5,7 @@ use mathlib.Core.Bool.{Bool, true, false, not, cond}
 use mathlib.Core.List.{List, [], _∷_, _++_, append-nil, append-assoc, List·Memᴰ, List·Memᴰ·append-cases, List·Memᴰ·eq-of-singleton, Memᴰ·append-left}
 use Prim.Native.Nat.{ℕ, suc, _+_, _*_, _-_, _^_, _≤_, _<_, max}
 use native.Mathlib.Omega.{arith}
+use native.Mathlib.Numerals.{add-one}
 use native.Mathlib.Nat.{mul-le-mul, one-le-mul}
 use lib.Dec.{eqb, ltb}
 use lib.ListN.{length, getD, take, drop, set, length-set, length-take, take-append-drop}
@@ -131,6 +132,10 @@ module _
               record { so-far = rw (into-same j t i d (omega arith) e) (f .so-far); mirrors = f .mirrors; numbered = f .numbered };
         }
 
+        -- the same at the count that the code steps to
+        pub gathered-other-next : (msg .receiver ≡ t → ⊥) → Now resources′ starts′ finishes′ rows count arrived cost (i + 1)
+        gathered-other-next e = rw (add-one i) (gathered-other e)
+
         -- what the standing says of its sender, and where it stands among the messages
         abbrev a : ℕ
         a = getD machines (msg .sender - 1) 0
@@ -201,6 +206,12 @@ module _
                     numbered = f .numbered;
                   };
             }
+
+        pub gathered-without-next :
+            msg .receiver ≡ t → crosses msg (getD machines (msg .sender - 1) 0) m ≡ false → {later : ℕ} →
+            later ≡ max arrived (getD done (msg .sender - 1) 0) →
+            Now resources′ starts′ finishes′ rows count later cost (i + 1)
+        gathered-without-next e c q = rw (q, add-one i) (gathered-without e c)
 
         -- the figures of its row
         record RowFigures (row : Row) : Type 0 where
@@ -395,6 +406,9 @@ module _
 
         -- What the code asks on the way.
 
+        pub room-left : used + count < room
+        room-left = fits
+
         pub sender-listed : (1 ≤ msg .sender) × (msg .sender ≤ most-tasks)
         sender-listed = let is = ask .order .ends msg listed .0 in let low = is .first in let high = is .last in let few = ask .order .tasks in (omega arith, omega arith)
 
@@ -448,6 +462,15 @@ module _
           cost-at-most = let h = g .cost-at-most in let k = row-figures e c row is .costs-at-most in omega arith;
           follows = λ held new range beside. follows-with e c row is held new range beside;
         }
+
+        pub gathered-with-next :
+            msg .receiver ≡ t → crosses msg (getD machines (msg .sender - 1) 0) m ≡ true → (row : Row) →
+            InputIs s (j .number) msg (getD machines (msg .sender - 1) 0) m (getD done (msg .sender - 1) 0) resources′ starts′ finishes′ (used + count) row →
+            {resources″ starts″ finishes″ : List ℕ} → resources″ ≡ set resources′ (used + count) (key (held-by (row .holder))) →
+            starts″ ≡ set starts′ (used + count) (row .start) → finishes″ ≡ set finishes′ (used + count) (row .finish) →
+            {later : ℕ} → later ≡ max arrived (row .finish) →
+            Now resources″ starts″ finishes″ (set rows count row) (count + 1) later (cost + row .cost) (i + 1)
+        gathered-with-next e c row is r x f q = rw (r, x, f, q, add-one count, add-one i) (gathered-with e c row is)
 
     -- after the last message
     pub gathered-all :

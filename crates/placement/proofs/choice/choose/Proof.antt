@@ -1,7 +1,7 @@
 -- `placement::choice::choose` meets its contract: after m machines what is kept is the foremost of their good trials.
-use Prim.Native.Nat.{_-_}
-use native.Mathlib.Omega.{arith}
+use Prim.Native.Nat.{_-_, _<_}
 use borrow.Author.Tests.{not-true, not-false}
+use Rattle.placement.proofs.Sums.{less-next, task-below, task-fits, machine-below, machine-fits, machine-turn-fits}
 use Rattle.placement.proofs.Chosen.{Chosen, chosen-none, chosen-unable, chosen-asks, chosen-late, chosen-stays, chosen-taken, chosen-all}
 use Rattle.placement.proofs.choice.choose.Statement.{statement}
 use Rattle.placement.proofs.choice.choose.Tie as tie
@@ -17,11 +17,14 @@ abbrev μ-loop : tie.MeasureT-loop
 sub-at : tie.Need-sub-at Inv-loop μ-loop
 sub-at c = c .pre .listed .first
 
+its-below : (c : tie.Start Inv-loop μ-loop) → c .args .task - 1 < 16
+its-below c = task-below _ _ (c .pre .listed .first) (c .pre .listed .last) (c .pre .order .tasks)
+
 mul-its : tie.Need-mul-its Inv-loop μ-loop
-mul-its c = omega arith
+mul-its c = task-fits _ (its-below c)
 
 element-copy-out-its : tie.Need-element-copy-out-its Inv-loop μ-loop
-element-copy-out-its c = omega arith
+element-copy-out-its c = its-below c
 
 nothing-requires : tie.Need-nothing-requires Inv-loop μ-loop
 nothing-requires c κs = tt
@@ -29,17 +32,20 @@ nothing-requires c κs = tt
 loop-holds : tie.Need-loop-holds Inv-loop μ-loop
 loop-holds c = chosen-none (c .before .before .before .pre) _ (c .nothing .ensures .0) (c .nothing .ensures .1)
 
+run-below : (c : tie.Then1 Inv-loop μ-loop) → c .before .before .loop .m < 4
+run-below c = machine-below _ _ (c .if1 .taken) (c .before .before .before .before .before .before .pre .room)
+
 mul-run : tie.Need-mul-run Inv-loop μ-loop
-mul-run c = omega arith
+mul-run c = machine-fits _ (run-below c)
 
 element-copy-out-run : tie.Need-element-copy-out-run Inv-loop μ-loop
-element-copy-out-run c = omega arith
+element-copy-out-run c = run-below c
 
 add-m : tie.Need-add-m Inv-loop μ-loop
-add-m c = omega arith
+add-m c = machine-turn-fits _ (run-below (c .before))
 
 loop-less : tie.Need-loop-less Inv-loop μ-loop
-loop-less c = omega arith
+loop-less c = less-next _ _ (c .before .before .if1 .taken)
 
 loop-again : tie.Need-loop-again Inv-loop μ-loop
 loop-again c =
@@ -56,7 +62,7 @@ attempt-requires c κs =
     (c .before .before .before .if2 .left)
 
 loop-less-2 : tie.Need-loop-less-2 Inv-loop μ-loop
-loop-less-2 c = omega arith
+loop-less-2 c = less-next _ _ (c .before .before .before .before .before .before .before .before .if1 .taken)
 
 loop-again-2 : tie.Need-loop-again-2 Inv-loop μ-loop
 loop-again-2 c =
@@ -73,7 +79,7 @@ comes-first-requires : tie.Need-comes-first-requires Inv-loop μ-loop
 comes-first-requires c κs = tt
 
 loop-less-3 : tie.Need-loop-less-3 Inv-loop μ-loop
-loop-less-3 c = omega arith
+loop-less-3 c = less-next _ _ (c .before .before .before .before .before .before .before .before .before .before .before .if1 .taken)
 
 loop-again-3 : tie.Need-loop-again-3 Inv-loop μ-loop
 loop-again-3 c =
@@ -89,7 +95,7 @@ loop-again-3 c =
     (not-true _ (c .if4 .taken))
 
 loop-less-4 : tie.Need-loop-less-4 Inv-loop μ-loop
-loop-less-4 c = omega arith
+loop-less-4 c = less-next _ _ (c .before .before .before .before .before .before .before .before .before .before .before .if1 .taken)
 
 loop-again-4 : tie.Need-loop-again-4 Inv-loop μ-loop
 loop-again-4 c =

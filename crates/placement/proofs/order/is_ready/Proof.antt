@@ -1,7 +1,7 @@
 -- `placement::order::is_ready` meets its contract: of the messages passed so far, those into the task come from tasks that are placed.
-use Prim.Native.Nat.{_-_, _≤_}
-use native.Mathlib.Omega.{arith}
+use Prim.Native.Nat.{_-_, _<_, _≤_}
 use Rattle.rules.specs.Words.{most-tasks}
+use Rattle.placement.proofs.Sums.{less-next, turn-below, turn-fits, message-fits, task-below, standing-fits, sender-below}
 use Rattle.placement.proofs.Tasks.{length-mapped, message-at, Passed, placed-unready, passed-none, passed-other, passed-placed, passed-ready, sender-within, sender-unplaced}
 use Rattle.placement.proofs.order.is_ready.Statement.{statement}
 use Rattle.placement.proofs.order.is_ready.Tie as tie
@@ -15,11 +15,14 @@ abbrev μ-loop : tie.MeasureT-loop
 sub-own : tie.Need-sub-own Inv-loop μ-loop
 sub-own c = c .pre .listed .first
 
+own-below : (c : tie.Start Inv-loop μ-loop) → c .args .task - 1 < 16
+own-below c = task-below _ _ (c .pre .listed .first) (c .pre .listed .last) (c .pre .order .tasks)
+
 mul-if1 : tie.Need-mul-if1 Inv-loop μ-loop
-mul-if1 c = omega arith
+mul-if1 c = standing-fits _ (own-below c)
 
 element-copy-out-if1 : tie.Need-element-copy-out-if1 Inv-loop μ-loop
-element-copy-out-if1 c = omega arith
+element-copy-out-if1 c = own-below c
 
 returns : tie.Need-returns Inv-loop μ-loop
 returns c = placed-unready (c .before .before .pre) (c .if1 .taken)
@@ -27,17 +30,20 @@ returns c = placed-unready (c .before .before .pre) (c .if1 .taken)
 loop-holds : tie.Need-loop-holds Inv-loop μ-loop
 loop-holds c = passed-none _ _ _ _ (search length-mapped)
 
+message-below : (c : tie.In-loop Inv-loop μ-loop) → c .before .loop .i < 32
+message-below c = turn-below _ _ (c .loop-test .taken) (c .before .before .before .before .pre .order .messages)
+
 mul-msg : tie.Need-mul-msg Inv-loop μ-loop
-mul-msg c = omega arith
+mul-msg c = message-fits _ (message-below c)
 
 element-copy-out-msg : tie.Need-element-copy-out-msg Inv-loop μ-loop
-element-copy-out-msg c = omega arith
+element-copy-out-msg c = message-below c
 
 add-i : tie.Need-add-i Inv-loop μ-loop
-add-i c = omega arith
+add-i c = turn-fits _ (message-below (c .before))
 
 loop-less : tie.Need-loop-less Inv-loop μ-loop
-loop-less c = omega arith
+loop-less c = less-next _ _ (c .before .before .before .loop-test .taken)
 
 loop-again : tie.Need-loop-again Inv-loop μ-loop
 loop-again c =
@@ -57,10 +63,10 @@ sub-sender : tie.Need-sub-sender Inv-loop μ-loop
 sub-sender c = sender c .0
 
 mul-if3 : tie.Need-mul-if3 Inv-loop μ-loop
-mul-if3 c = let s = sender c in omega arith
+mul-if3 c = standing-fits _ (sender-below _ (sender c))
 
 element-copy-out-if3 : tie.Need-element-copy-out-if3 Inv-loop μ-loop
-element-copy-out-if3 c = let s = sender c in omega arith
+element-copy-out-if3 c = sender-below _ (sender c)
 
 returns-2 : tie.Need-returns-2 Inv-loop μ-loop
 returns-2 c =
@@ -73,7 +79,7 @@ returns-2 c =
     (c .if3 .taken)
 
 loop-less-2 : tie.Need-loop-less-2 Inv-loop μ-loop
-loop-less-2 c = omega arith
+loop-less-2 c = less-next _ _ (c .before .before .before .before .before .before .loop-test .taken)
 
 loop-again-2 : tie.Need-loop-again-2 Inv-loop μ-loop
 loop-again-2 c =

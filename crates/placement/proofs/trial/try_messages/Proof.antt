@@ -1,15 +1,15 @@
 -- `placement::trial::try_messages` meets its contract: after i messages the rows tried are those of the rules.
-use mathlib.Core.Path.{_≡_, refl, sym, ap, _∙_}
-use Prim.Native.Nat.{ℕ, _-_, _+_, _<_, _≤_}
-use native.Mathlib.Omega.{arith}
-use native.Mathlib.Numerals.{add-one}
+use mathlib.Core.Path.{_≡_, refl}
+use Prim.Native.Nat.{_-_, _+_, _^_, _<_, _≤_}
 use lib.ListN.{length, getD}
-use borrow.Author.Needs.{needs}
 use Rattle.rules.specs.declared.Message.{Message}
 use Rattle.rules.specs.Words.{most-messages, most-tasks}
+use Rattle.placement.specs.Columns.{room}
+use Rattle.placement.specs.Asked.{Numbered}
+use Rattle.placement.proofs.Sums.{less-next, turn-below, turn-fits, message-fits, row-fits, count-fits, room-fits, cost-fits, standing-fits, sender-below}
 use Rattle.placement.proofs.Tasks.{length-mapped}
-use Rattle.placement.proofs.Gathered.{Gathered, gathered-none, gathered-other, gathered-without, gathered-with, gathered-all}
-use Rattle.placement.proofs.Gathered.{sender-listed, ask-input, input-fits}
+use Rattle.placement.proofs.Gathered.{Gathered, gathered-none, gathered-other-next, gathered-without-next, gathered-with-next, gathered-all}
+use Rattle.placement.proofs.Gathered.{sender-listed, room-left, ask-input, input-fits}
 use Rattle.placement.proofs.Crossings.{crosses-apart, crosses-together, crosses-empty}
 use Rattle.placement.proofs.trial.try_messages.Statement.{statement}
 use Rattle.placement.proofs.trial.try_messages.Tie as tie
@@ -22,11 +22,25 @@ abbrev μ-loop : tie.MeasureT-loop
 μ-loop s task machine release resources₀ starts₀ finishes₀ used job standing rows₀ count₀ arrived₀ cost₀ total i₀ resources starts finishes rows count arrived cost i =
     total - i
 
-all-messages : (c : tie.Start Inv-loop μ-loop) → length (c .args .t2 .messages) ≡ most-messages
-all-messages c = search length-mapped
+-- What holds in a turn.
 
 abbrev none : Message
 none = record { sender = 0; receiver = 0; volume = 0 }
+
+all-messages : (c : tie.Start Inv-loop μ-loop) → length (c .args .t2 .messages) ≡ most-messages
+all-messages c = search length-mapped
+
+abbrev msg-at : tie.At-loop Inv-loop μ-loop → Message
+msg-at c = getD (c .before .before .args .t2 .messages) (c .loop .i) none
+
+message-below : (c : tie.In-loop Inv-loop μ-loop) → c .before .loop .i < 32
+message-below c = turn-below _ _ (c .loop-test .taken) (c .before .before .before .pre .order .messages)
+
+sender-at : (c : tie.In-loop Inv-loop μ-loop) → (1 ≤ msg-at (c .before) .sender) × (msg-at (c .before) .sender ≤ most-tasks)
+sender-at c = sender-listed (c .before .before .before .pre) (c .before .loop .inv) (c .loop-test .taken) (all-messages (c .before .before .before)) none
+
+room-at : (c : tie.In-loop Inv-loop μ-loop) → c .before .before .before .args .used + c .before .loop .count < room
+room-at c = room-left (c .before .before .before .pre) (c .before .loop .inv) (c .loop-test .taken) (all-messages (c .before .before .before)) none
 
 blank-requires : tie.Need-blank-requires Inv-loop μ-loop
 blank-requires c κs = tt
@@ -35,166 +49,108 @@ loop-holds : tie.Need-loop-holds Inv-loop μ-loop
 loop-holds c = gathered-none (c .before .pre) _ refl
 
 mul-msg : tie.Need-mul-msg Inv-loop μ-loop
-mul-msg c = omega arith
+mul-msg c = message-fits _ (message-below c)
 
 element-copy-out-msg : tie.Need-element-copy-out-msg Inv-loop μ-loop
-element-copy-out-msg c = omega arith
+element-copy-out-msg c = message-below c
 
 add-i : tie.Need-add-i Inv-loop μ-loop
-add-i c = omega arith
+add-i c = turn-fits _ (message-below (c .before))
 
 loop-less : tie.Need-loop-less Inv-loop μ-loop
-loop-less c = omega arith
+loop-less c = less-next _ _ (c .before .before .before .loop-test .taken)
 
 loop-again : tie.Need-loop-again Inv-loop μ-loop
 loop-again c =
     let at = c .before .before .before .before in
     let start = at .before .before in
-    let msg = getD (start .args .t2 .messages) (at .loop .i) none in
-    rw (add-one (at .loop .i)) (gathered-other (start .pre) (at .loop .inv) (c .before .before .before .loop-test .taken) (all-messages start) none (c .if1 .taken))
+    gathered-other-next (start .pre) (at .loop .inv) (c .before .before .before .loop-test .taken) (all-messages start) none (c .if1 .taken)
 
 sub-sender : tie.Need-sub-sender Inv-loop μ-loop
-sub-sender c =
-    let at = c .before .before .before .before .before in
-    let start = at .before .before in
-    let msg = getD (start .args .t2 .messages) (at .loop .i) none in
-    sender-listed (start .pre) (at .loop .inv) (c .before .before .before .before .loop-test .taken) (all-messages start) none .0
+sub-sender c = sender-at (c .before .before .before .before) .0
 
 mul-a : tie.Need-mul-a Inv-loop μ-loop
-mul-a c =
-    let at = c .before .before .before .before .before in
-    let start = at .before .before in
-    let msg = getD (start .args .t2 .messages) (at .loop .i) none in
-    let range = sender-listed (start .pre) (at .loop .inv) (c .before .before .before .before .loop-test .taken) (all-messages start) none in
-    omega arith
+mul-a c = standing-fits _ (sender-below _ (sender-at (c .before .before .before .before)))
 
 element-copy-out-a : tie.Need-element-copy-out-a Inv-loop μ-loop
-element-copy-out-a c =
-    let at = c .before .before .before .before .before in
-    let start = at .before .before in
-    let msg = getD (start .args .t2 .messages) (at .loop .i) none in
-    let range = sender-listed (start .pre) (at .loop .inv) (c .before .before .before .before .loop-test .taken) (all-messages start) none in
-    omega arith
+element-copy-out-a c = sender-below _ (sender-at (c .before .before .before .before))
 
 mul-done : tie.Need-mul-done Inv-loop μ-loop
-mul-done c =
-    let at = c .before .before .before .before .before .before in
-    let start = at .before .before in
-    let msg = getD (start .args .t2 .messages) (at .loop .i) none in
-    let range = sender-listed (start .pre) (at .loop .inv) (c .before .before .before .before .before .loop-test .taken) (all-messages start) none in
-    omega arith
+mul-done c = standing-fits _ (sender-below _ (sender-at (c .before .before .before .before .before)))
 
 element-copy-out-done : tie.Need-element-copy-out-done Inv-loop μ-loop
-element-copy-out-done c =
-    let at = c .before .before .before .before .before .before in
-    let start = at .before .before in
-    let msg = getD (start .args .t2 .messages) (at .loop .i) none in
-    let range = sender-listed (start .pre) (at .loop .inv) (c .before .before .before .before .before .loop-test .taken) (all-messages start) none in
-    omega arith
+element-copy-out-done c = sender-below _ (sender-at (c .before .before .before .before .before))
 
 later-requires : tie.Need-later-requires Inv-loop μ-loop
 later-requires c κs = tt
 
 loop-less-2 : tie.Need-loop-less-2 Inv-loop μ-loop
-loop-less-2 c = omega arith
+loop-less-2 c = less-next _ _ (c .before .before .before .before .before .before .before .before .loop-test .taken)
 
 loop-again-2 : tie.Need-loop-again-2 Inv-loop μ-loop
 loop-again-2 c =
     let at = c .before .before .before .before .before .before .before .before .before in
     let start = at .before .before in
-    let msg = getD (start .args .t2 .messages) (at .loop .i) none in
-    rw
-    (c .later .ensures, add-one (at .loop .i))
-    (gathered-without (start .pre) (at .loop .inv) (c .before .before .before .before .before .before .before .before .loop-test .taken) (all-messages start) none (c .before .before .before .before .before .if1 .left) (crosses-together msg _ _ (c .before .if2 .taken)))
+    gathered-without-next (start .pre) (at .loop .inv) (c .before .before .before .before .before .before .before .before .loop-test .taken) (all-messages start) none (c .before .before .before .before .before .if1 .left) (crosses-together (msg-at at) _ _ (c .before .if2 .taken)) (c .later .ensures)
 
 later-requires-2 : tie.Need-later-requires-2 Inv-loop μ-loop
 later-requires-2 c κs = tt
 
 loop-less-3 : tie.Need-loop-less-3 Inv-loop μ-loop
-loop-less-3 c = omega arith
+loop-less-3 c = less-next _ _ (c .before .before .before .before .before .before .before .before .before .before .loop-test .taken)
 
 loop-again-3 : tie.Need-loop-again-3 Inv-loop μ-loop
 loop-again-3 c =
     let at = c .before .before .before .before .before .before .before .before .before .before .before in
     let start = at .before .before in
-    let msg = getD (start .args .t2 .messages) (at .loop .i) none in
-    rw
-    (c .later2 .ensures, add-one (at .loop .i))
-    (gathered-without (start .pre) (at .loop .inv) (c .before .before .before .before .before .before .before .before .before .before .loop-test .taken) (all-messages start) none (c .before .before .before .before .before .before .before .if1 .left) (crosses-empty msg _ _ (c .before .before .before .if2 .left) (c .before .if3 .taken)))
+    gathered-without-next (start .pre) (at .loop .inv) (c .before .before .before .before .before .before .before .before .before .before .loop-test .taken) (all-messages start) none (c .before .before .before .before .before .before .before .if1 .left) (crosses-empty (msg-at at) _ _ (c .before .before .before .if2 .left) (c .before .if3 .taken)) (c .later2 .ensures)
 
 add-try-message : tie.Need-add-try-message Inv-loop μ-loop
-add-try-message c = omega arith
+add-try-message c = room-fits _ (room-at (c .before .before .before .before .before .before .before .before .before .before .before .before))
 
 try-message-requires : tie.Need-try-message-requires Inv-loop μ-loop
 try-message-requires c κs =
     let at = c .before .before .before .before .before .before .before .before .before .before .before .before .before in
     let start = at .before .before in
-    let msg = getD (start .args .t2 .messages) (at .loop .i) none in
-    ask-input (start .pre) (at .loop .inv) (c .before .before .before .before .before .before .before .before .before .before .before .before .loop-test .taken) (all-messages start) none (c .before .before .before .before .before .before .before .before .before .if1 .left) (crosses-apart msg _ _ (c .before .before .before .before .before .if2 .left) (c .before .before .before .if3 .left))
+    ask-input (start .pre) (at .loop .inv) (c .before .before .before .before .before .before .before .before .before .before .before .before .loop-test .taken) (all-messages start) none (c .before .before .before .before .before .before .before .before .before .if1 .left) (crosses-apart (msg-at at) _ _ (c .before .before .before .before .before .if2 .left) (c .before .before .before .if3 .left))
 
 add-put : tie.Need-add-put Inv-loop μ-loop
-add-put c = omega arith
+add-put c = room-fits _ (room-at (c .before .before .before .before .before .before .before .before .before .before .before .before .before))
+
+row-is-fit :
+    (c : tie.After-try-message Inv-loop μ-loop) →
+    (c .before .before .before .before .before .before .before .before .before .before .before .before .before .before .before .before .args .used + c .before .before .before .before .before .before .before .before .before .before .before .before .before .before .loop .count < room) × Numbered (c .try-message .result .holder) × (c .before .before .before .before .before .before .before .before .before .before .before .before .before .before .loop .count < most-messages + 1) × (c .before .before .before .before .before .before .before .before .before .before .before .before .before .before .loop .cost + c .try-message .result .cost < 2 ^ 63)
+row-is-fit c =
+    let at = c .before .before .before .before .before .before .before .before .before .before .before .before .before .before in
+    let start = at .before .before in
+    input-fits (start .pre) (at .loop .inv) (c .before .before .before .before .before .before .before .before .before .before .before .before .before .loop-test .taken) (all-messages start) none (c .before .before .before .before .before .before .before .before .before .before .if1 .left) (crosses-apart (msg-at at) _ _ (c .before .before .before .before .before .before .if2 .left) (c .before .before .before .before .if3 .left)) _ (c .try-message .ensures)
 
 put-requires : tie.Need-put-requires Inv-loop μ-loop
-put-requires c κs =
-    let at = c .before .before .before .before .before .before .before .before .before .before .before .before .before .before .before .before .before in
-    let start = at .before .before in
-    let msg = getD (start .args .t2 .messages) (at .loop .i) none in
-    let fit = input-fits (start .pre) (at .loop .inv) (c .before .before .before .before .before .before .before .before .before .before .before .before .before .before .before .before .loop-test .taken) (all-messages start) none (c .before .before .before .before .before .before .before .before .before .before .before .before .before .if1 .left) (crosses-apart msg _ _ (c .before .before .before .before .before .before .before .before .before .if2 .left) (c .before .before .before .before .before .before .before .if3 .left)) _ (c .before .before .before .try-message .ensures) in
-    (fit .0, fit .1)
+put-requires c κs = let fit = row-is-fit (c .before .before .before) in (fit .0, fit .1)
 
 mul-rows : tie.Need-mul-rows Inv-loop μ-loop
-mul-rows c =
-    let at = c .before .before .before .before .before .before .before .before .before .before .before .before .before .before .before .before .before .before in
-    let start = at .before .before in
-    let msg = getD (start .args .t2 .messages) (at .loop .i) none in
-    let fit = input-fits (start .pre) (at .loop .inv) (c .before .before .before .before .before .before .before .before .before .before .before .before .before .before .before .before .before .loop-test .taken) (all-messages start) none (c .before .before .before .before .before .before .before .before .before .before .before .before .before .before .if1 .left) (crosses-apart msg _ _ (c .before .before .before .before .before .before .before .before .before .before .if2 .left) (c .before .before .before .before .before .before .before .before .if3 .left)) _ (c .before .before .before .before .try-message .ensures) in
-    let few = fit .2 in
-    omega arith
+mul-rows c = row-fits _ (row-is-fit (c .before .before .before .before) .2)
 
 array-set-from-rows : tie.Need-array-set-from-rows Inv-loop μ-loop
-array-set-from-rows c =
-    let at = c .before .before .before .before .before .before .before .before .before .before .before .before .before .before .before .before .before .before in
-    let start = at .before .before in
-    let msg = getD (start .args .t2 .messages) (at .loop .i) none in
-    let fit = input-fits (start .pre) (at .loop .inv) (c .before .before .before .before .before .before .before .before .before .before .before .before .before .before .before .before .before .loop-test .taken) (all-messages start) none (c .before .before .before .before .before .before .before .before .before .before .before .before .before .before .if1 .left) (crosses-apart msg _ _ (c .before .before .before .before .before .before .before .before .before .before .if2 .left) (c .before .before .before .before .before .before .before .before .if3 .left)) _ (c .before .before .before .before .try-message .ensures) in
-    let few = fit .2 in
-    omega arith
+array-set-from-rows c = row-is-fit (c .before .before .before .before) .2
 
 later-requires-3 : tie.Need-later-requires-3 Inv-loop μ-loop
 later-requires-3 c κs = tt
 
 add-cost : tie.Need-add-cost Inv-loop μ-loop
-add-cost c =
-    let at = c .before .before .before .before .before .before .before .before .before .before .before .before .before .before .before .before .before .before .before .before in
-    let start = at .before .before in
-    let msg = getD (start .args .t2 .messages) (at .loop .i) none in
-    let fit = input-fits (start .pre) (at .loop .inv) (c .before .before .before .before .before .before .before .before .before .before .before .before .before .before .before .before .before .before .before .loop-test .taken) (all-messages start) none (c .before .before .before .before .before .before .before .before .before .before .before .before .before .before .before .before .if1 .left) (crosses-apart msg _ _ (c .before .before .before .before .before .before .before .before .before .before .before .before .if2 .left) (c .before .before .before .before .before .before .before .before .before .before .if3 .left)) _ (c .before .before .before .before .before .before .try-message .ensures) in
-    let few = fit .2 in
-    let spent = fit .3 in
-    omega arith
+add-cost c = cost-fits _ (row-is-fit (c .before .before .before .before .before .before) .3)
 
 add-count : tie.Need-add-count Inv-loop μ-loop
-add-count c =
-    let at = c .before .before .before .before .before .before .before .before .before .before .before .before .before .before .before .before .before .before .before .before in
-    let start = at .before .before in
-    let msg = getD (start .args .t2 .messages) (at .loop .i) none in
-    let fit = input-fits (start .pre) (at .loop .inv) (c .before .before .before .before .before .before .before .before .before .before .before .before .before .before .before .before .before .before .before .loop-test .taken) (all-messages start) none (c .before .before .before .before .before .before .before .before .before .before .before .before .before .before .before .before .if1 .left) (crosses-apart msg _ _ (c .before .before .before .before .before .before .before .before .before .before .before .before .if2 .left) (c .before .before .before .before .before .before .before .before .before .before .if3 .left)) _ (c .before .before .before .before .before .before .try-message .ensures) in
-    let few = fit .2 in
-    let spent = fit .3 in
-    omega arith
+add-count c = count-fits _ (row-is-fit (c .before .before .before .before .before .before) .2)
 
 loop-less-4 : tie.Need-loop-less-4 Inv-loop μ-loop
-loop-less-4 c = omega arith
+loop-less-4 c = less-next _ _ (c .before .before .before .before .before .before .before .before .before .before .before .before .before .before .before .before .before .before .before .loop-test .taken)
 
 loop-again-4 : tie.Need-loop-again-4 Inv-loop μ-loop
 loop-again-4 c =
     let at = c .before .before .before .before .before .before .before .before .before .before .before .before .before .before .before .before .before .before .before .before in
     let start = at .before .before in
-    let msg = getD (start .args .t2 .messages) (at .loop .i) none in
-    rw
-    (c .before .later3 .ensures, add-one (at .loop .i), add-one (at .loop .count), c .before .before .put .ensures .0, c .before .before .put .ensures .1 .0, c .before .before .put .ensures .1 .1)
-    (gathered-with (start .pre) (at .loop .inv) (c .before .before .before .before .before .before .before .before .before .before .before .before .before .before .before .before .before .before .before .loop-test .taken) (all-messages start) none (c .before .before .before .before .before .before .before .before .before .before .before .before .before .before .before .before .if1 .left) (crosses-apart msg _ _ (c .before .before .before .before .before .before .before .before .before .before .before .before .if2 .left) (c .before .before .before .before .before .before .before .before .before .before .if3 .left)) _ (c .before .before .before .before .before .before .try-message .ensures))
+    gathered-with-next (start .pre) (at .loop .inv) (c .before .before .before .before .before .before .before .before .before .before .before .before .before .before .before .before .before .before .before .loop-test .taken) (all-messages start) none (c .before .before .before .before .before .before .before .before .before .before .before .before .before .before .before .before .if1 .left) (crosses-apart (msg-at at) _ _ (c .before .before .before .before .before .before .before .before .before .before .before .before .if2 .left) (c .before .before .before .before .before .before .before .before .before .before .if3 .left)) _ (c .before .before .before .before .before .before .try-message .ensures) (c .before .before .put .ensures .0) (c .before .before .put .ensures .1 .0) (c .before .before .put .ensures .1 .1) (c .before .later3 .ensures)
 
 returns : tie.Need-returns Inv-loop μ-loop
 returns c = gathered-all (c .before .before .before .pre) (c .before .loop .inv) (c .loop-test .left)

@@ -1,4 +1,5 @@
 -- Laws that the functions' proofs cite.
+pub mod Sums
 pub mod Ranged
 pub mod Feasibility
 pub mod Sighted

@@ -1,6 +1,7 @@
 -- `reservation::feasible::infeasible` meets its contract: none of the machines passed ends in time.
-use Prim.Native.Nat.{_-_}
-use native.Mathlib.Omega.{arith}
+use Prim.Native.Nat.{_-_, _<_}
+use Rattle.placement.proofs.Sums.{less-next, task-below, task-fits, machine-below, machine-fits, machine-turn-fits}
+use Rattle.reservation.proofs.Sums.{run-fits}
 use Rattle.reservation.proofs.Feasibility.{count-at-most, AllLate, late-at-first, late-unable, late-more, late-infeasible, in-time-feasible, run-at-most}
 use Rattle.reservation.proofs.feasible.infeasible.Statement.{statement}
 use Rattle.reservation.proofs.feasible.infeasible.Tie as tie
@@ -14,26 +15,32 @@ abbrev μ-loop : tie.MeasureT-loop
 sub-at : tie.Need-sub-at Inv-loop μ-loop
 sub-at c = c .pre .listed .first
 
+its-below : (c : tie.Start Inv-loop μ-loop) → c .args .task - 1 < 16
+its-below c = task-below _ _ (c .pre .listed .first) (c .pre .listed .last) (count-at-most (c .pre .feasible))
+
 mul-its : tie.Need-mul-its Inv-loop μ-loop
-mul-its c = let most = count-at-most (c .pre .feasible) in omega arith
+mul-its c = task-fits _ (its-below c)
 
 element-copy-out-its : tie.Need-element-copy-out-its Inv-loop μ-loop
-element-copy-out-its c = let most = count-at-most (c .pre .feasible) in omega arith
+element-copy-out-its c = its-below c
 
 loop-holds : tie.Need-loop-holds Inv-loop μ-loop
 loop-holds c = late-at-first _ _ _
 
+run-below : (c : tie.Then1 Inv-loop μ-loop) → c .before .before .loop .m < 4
+run-below c = machine-below _ _ (c .if1 .taken) (c .before .before .before .before .before .pre .feasible .figures .room)
+
 mul-run : tie.Need-mul-run Inv-loop μ-loop
-mul-run c = omega arith
+mul-run c = machine-fits _ (run-below c)
 
 element-copy-out-run : tie.Need-element-copy-out-run Inv-loop μ-loop
-element-copy-out-run c = omega arith
+element-copy-out-run c = run-below c
 
 add-m : tie.Need-add-m Inv-loop μ-loop
-add-m c = omega arith
+add-m c = machine-turn-fits _ (run-below (c .before))
 
 loop-less : tie.Need-loop-less Inv-loop μ-loop
-loop-less c = omega arith
+loop-less c = less-next _ _ (c .before .before .if1 .taken)
 
 loop-again : tie.Need-loop-again Inv-loop μ-loop
 loop-again c = late-unable (c .before .before .before .before .loop .inv) (c .before .before .if1 .taken) (c .if2 .taken)
@@ -41,14 +48,13 @@ loop-again c = late-unable (c .before .before .before .before .loop .inv) (c .be
 add-if3 : tie.Need-add-if3 Inv-loop μ-loop
 add-if3 c =
     let start = c .before .before .before .before .before .before .before in
-    let most = run-at-most _ _ _ _ (c .before .before .if1 .taken) (start .pre) in
-    omega (arith, start .pre .feasible .clock-at-most)
+    run-fits _ _ (start .pre .feasible .clock-at-most) (run-at-most _ _ _ _ (c .before .before .if1 .taken) (start .pre))
 
 returns : tie.Need-returns Inv-loop μ-loop
 returns c = in-time-feasible _ _ _ _ (c .before .before .before .if1 .taken) (c .before .if2 .left) (c .if3 .taken)
 
 loop-less-2 : tie.Need-loop-less-2 Inv-loop μ-loop
-loop-less-2 c = omega arith
+loop-less-2 c = less-next _ _ (c .before .before .before .if1 .taken)
 
 loop-again-2 : tie.Need-loop-again-2 Inv-loop μ-loop
 loop-again-2 c = late-more (c .before .before .before .before .before .loop .inv) (c .before .before .before .if1 .taken) (c .if3 .left)

@@ -4,6 +4,8 @@ use mathlib.Core.Bool.{false}
 use Prim.Native.Nat.{_-_, _≤_, _<_}
 use native.Mathlib.Omega.{arith}
 use native.Mathlib.Numerals.{add-one}
+use Rattle.placement.proofs.Sums.{less-next}
+use Rattle.reservation.proofs.Sums.{slot-below, slot-fits, slot-word-fits, slot-turn-fits}
 use Rattle.reservation.proofs.Removed.{Made, made-none, made-more}
 use Rattle.reservation.proofs.removal.figures_of.Statement.{statement}
 use Rattle.reservation.proofs.removal.figures_of.Tie as tie
@@ -18,42 +20,45 @@ abbrev μ-loop : tie.MeasureT-loop
 loop-holds : tie.Need-loop-holds Inv-loop μ-loop
 loop-holds c = (omega arith, made-none 0 _ _ _ refl, made-none 0 _ _ _ refl)
 
+row-below : (c : tie.In-loop Inv-loop μ-loop) → c .before .loop .i < 256
+row-below c = slot-below _ _ (c .loop-test .taken) (c .before .before .pre)
+
 mul-figures : tie.Need-mul-figures Inv-loop μ-loop
-mul-figures c = omega arith
+mul-figures c = slot-fits _ (row-below c)
 
 element-copy-out-figures : tie.Need-element-copy-out-figures Inv-loop μ-loop
-element-copy-out-figures c = omega arith
+element-copy-out-figures c = row-below c
 
 mul-figures-2 : tie.Need-mul-figures-2 Inv-loop μ-loop
-mul-figures-2 c = omega arith
+mul-figures-2 c = slot-word-fits _ (row-below c)
 
 element-write-figures : tie.Need-element-write-figures Inv-loop μ-loop
-element-write-figures c = omega arith
+element-write-figures c = row-below c
 
 mul-figures-3 : tie.Need-mul-figures-3 Inv-loop μ-loop
-mul-figures-3 c = omega arith
+mul-figures-3 c = slot-fits _ (row-below c)
 
 element-copy-out-figures-2 : tie.Need-element-copy-out-figures-2 Inv-loop μ-loop
-element-copy-out-figures-2 c = omega arith
+element-copy-out-figures-2 c = row-below c
 
 mul-figures-4 : tie.Need-mul-figures-4 Inv-loop μ-loop
-mul-figures-4 c = omega arith
+mul-figures-4 c = slot-word-fits _ (row-below c)
 
 element-write-figures-2 : tie.Need-element-write-figures-2 Inv-loop μ-loop
-element-write-figures-2 c = omega arith
+element-write-figures-2 c = row-below c
 
 add-i : tie.Need-add-i Inv-loop μ-loop
-add-i c = omega arith
+add-i c = slot-turn-fits _ (row-below c)
 
 loop-less : tie.Need-loop-less Inv-loop μ-loop
-loop-less c = omega arith
+loop-less c = less-next _ _ (c .loop-test .taken)
 
 loop-again : tie.Need-loop-again Inv-loop μ-loop
 loop-again c =
     let at = c .before in
     rw
     (add-one (at .loop .i))
-    (omega arith, made-more (at .loop .inv .1) (omega arith) _ refl, made-more (at .loop .inv .2) (omega arith) _ refl)
+    (c .loop-test .taken, made-more (at .loop .inv .1) (row-below c) _ refl, made-more (at .loop .inv .2) (row-below c) _ refl)
 
 returns : tie.Need-returns Inv-loop μ-loop
 returns c =

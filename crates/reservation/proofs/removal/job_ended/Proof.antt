@@ -5,6 +5,8 @@ use Prim.Native.Nat.{_-_, _≤_, _<_}
 use native.Mathlib.Omega.{arith}
 use native.Mathlib.Numerals.{add-one}
 use mathlib.Core.List.{List}
+use Rattle.placement.proofs.Sums.{less-next}
+use Rattle.reservation.proofs.Sums.{slot-below, slot-word-fits, slot-turn-fits}
 use mathlib.Core.Bool.{not}
 use lib.Dec.{eqb, ltb}
 use lib.ListN.{length, take}
@@ -29,23 +31,26 @@ abbrev μ-loop : tie.MeasureT-loop
 loop-holds : tie.Need-loop-holds Inv-loop μ-loop
 loop-holds c = (omega arith, λ rows a b l. refl)
 
+row-below : (c : tie.In-loop Inv-loop μ-loop) → c .before .loop .i < 256
+row-below c = slot-below _ _ (c .loop-test .taken) (c .before .before .pre .count-at-most)
+
 mul-carried : tie.Need-mul-carried Inv-loop μ-loop
-mul-carried c = omega arith
+mul-carried c = slot-word-fits _ (row-below c)
 
 element-copy-out-carried : tie.Need-element-copy-out-carried Inv-loop μ-loop
-element-copy-out-carried c = omega arith
+element-copy-out-carried c = row-below c
 
 mul-finish : tie.Need-mul-finish Inv-loop μ-loop
-mul-finish c = omega arith
+mul-finish c = slot-word-fits _ (row-below (c .before))
 
 element-copy-out-finish : tie.Need-element-copy-out-finish Inv-loop μ-loop
-element-copy-out-finish c = omega arith
+element-copy-out-finish c = row-below (c .before)
 
 add-i : tie.Need-add-i Inv-loop μ-loop
-add-i c = omega arith
+add-i c = slot-turn-fits _ (row-below (c .before .before))
 
 loop-less : tie.Need-loop-less Inv-loop μ-loop
-loop-less c = omega arith
+loop-less c = less-next _ _ (c .before .before .before .loop-test .taken)
 
 loop-again : tie.Need-loop-again Inv-loop μ-loop
 loop-again c =
@@ -88,7 +93,7 @@ returns c =
     (ap (ltb (a .tick)) (sym (finishes .is (at .loop .i) h)) ∙ lt-ltb (a .tick) _ (c .if2 .taken))))
 
 loop-less-2 : tie.Need-loop-less-2 Inv-loop μ-loop
-loop-less-2 c = omega arith
+loop-less-2 c = less-next _ _ (c .before .before .before .before .loop-test .taken)
 
 loop-again-2 : tie.Need-loop-again-2 Inv-loop μ-loop
 loop-again-2 c =

@@ -5,6 +5,8 @@ use Prim.Native.Nat.{_-_, _≤_, _<_}
 use native.Mathlib.Omega.{arith}
 use native.Mathlib.Numerals.{add-one}
 use mathlib.Core.List.{List}
+use Rattle.placement.proofs.Sums.{less-next}
+use Rattle.reservation.proofs.Sums.{slot-below, slot-word-fits, slot-turn-fits}
 use lib.ListN.{length, take}
 use borrow.Author.Needs.{needs}
 use Rattle.placement.proofs.Tasks.{length-mapped}
@@ -27,28 +29,31 @@ abbrev μ-loop : tie.MeasureT-loop
 μ-loop count tick figures leaves₀ i₀ leaves i = count - i
 
 figures-of-requires : tie.Need-figures-of-requires Inv-loop μ-loop
-figures-of-requires c κs = search needs
+figures-of-requires c κs = c .pre
 
 loop-holds : tie.Need-loop-holds Inv-loop μ-loop
 loop-holds c = (omega arith, λ rows a b l. made-none false _ rows _ refl)
 
+row-below : (c : tie.In-loop Inv-loop μ-loop) → c .before .loop .i < 256
+row-below c = slot-below _ _ (c .loop-test .taken) (c .before .before .before .pre)
+
 mul-job : tie.Need-mul-job Inv-loop μ-loop
-mul-job c = omega arith
+mul-job c = slot-word-fits _ (row-below c)
 
 element-copy-out-job : tie.Need-element-copy-out-job Inv-loop μ-loop
-element-copy-out-job c = omega arith
+element-copy-out-job c = row-below c
 
 job-ended-requires : tie.Need-job-ended-requires Inv-loop μ-loop
 job-ended-requires c κs = record { count-at-most = c .before .before .before .before .before .before .before .pre }
 
 array-write-leaves : tie.Need-array-write-leaves Inv-loop μ-loop
-array-write-leaves c = omega arith
+array-write-leaves c = row-below (c .before .before .before .before .before)
 
 add-i : tie.Need-add-i Inv-loop μ-loop
-add-i c = omega arith
+add-i c = slot-turn-fits _ (row-below (c .before .before .before .before .before))
 
 loop-less : tie.Need-loop-less Inv-loop μ-loop
-loop-less c = omega arith
+loop-less c = less-next _ _ (c .before .before .before .before .before .loop-test .taken)
 
 loop-again : tie.Need-loop-again Inv-loop μ-loop
 loop-again c =
@@ -57,11 +62,11 @@ loop-again c =
     let h = c .before .before .before .before .before .loop-test .taken in
     rw
     (add-one (at .loop .i)) (
-      omega arith,
+      h,
       λ rows jobs finishes l.
           made-more
           (at .loop .inv .1 rows jobs finishes l)
-          (omega arith)
+          (row-below (c .before .before .before .before .before))
           (c .job-ended .result)
           (c .job-ended .ensures rows jobs finishes l ∙ ap (λ n. ended (a .tick) (keep (of-job n) (take (a .count) rows))) (jobs .is (at .loop .i) h)),
     )

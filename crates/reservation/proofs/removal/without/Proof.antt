@@ -1,12 +1,8 @@
 -- `reservation::removal::without` meets its contract: after i rows those that stay stand at the front, and the total is theirs and that of the rows left.
-use mathlib.Core.Path.{_≡_, refl, sym, ap, _∙_, subst}
-use mathlib.Core.Bool.{false}
-use Prim.Native.Nat.{_-_, _≤_, _<_}
-use native.Mathlib.Omega.{arith}
+use Prim.Native.Nat.{_-_, _<_}
 use native.Mathlib.Numerals.{add-one}
-use lib.ListN.{length, replicate}
-use Rattle.rules.specs.Words.{row-limit}
-use Rattle.rules.specs.Placing.{no-row}
+use Rattle.placement.proofs.Sums.{less-next}
+use Rattle.reservation.proofs.Sums.{slot-below, slot-kept, slot-fits, slot-turn-fits}
 use Rattle.reservation.proofs.Removed.{Removing, removing-none, cost-there, removing-gone, removing-stays, removing-all}
 use Rattle.reservation.proofs.removal.without.Statement.{statement}
 use Rattle.reservation.proofs.removal.without.Tie as tie
@@ -24,17 +20,23 @@ blank-requires c κs = tt
 loop-holds : tie.Need-loop-holds Inv-loop μ-loop
 loop-holds c = rw (c .blank .ensures) (removing-none (c .before .pre))
 
+row-below : (c : tie.In-loop Inv-loop μ-loop) → c .before .loop .i < 256
+row-below c = slot-below _ _ (c .loop-test .taken) (c .before .before .before .pre .count-at-most)
+
+kept-below : (c : tie.In-loop Inv-loop μ-loop) → c .before .loop .kept < 256
+kept-below c = slot-kept _ _ _ (c .before .loop .inv .kept-at-most) (c .loop-test .taken) (c .before .before .before .pre .count-at-most)
+
 mul-row : tie.Need-mul-row Inv-loop μ-loop
-mul-row c = omega arith
+mul-row c = slot-fits _ (row-below c)
 
 element-copy-out-row : tie.Need-element-copy-out-row Inv-loop μ-loop
-element-copy-out-row c = omega arith
+element-copy-out-row c = row-below c
 
 array-read-gone : tie.Need-array-read-gone Inv-loop μ-loop
-array-read-gone c = omega arith
+array-read-gone c = row-below (c .before)
 
 add-i : tie.Need-add-i Inv-loop μ-loop
-add-i c = omega arith
+add-i c = slot-turn-fits _ (row-below (c .before))
 
 sub-total : tie.Need-sub-total Inv-loop μ-loop
 sub-total c =
@@ -42,7 +44,7 @@ sub-total c =
     cost-there (at .before .before .pre) (at .loop .inv) (c .before .before .before .loop-test .taken)
 
 loop-less : tie.Need-loop-less Inv-loop μ-loop
-loop-less c = omega arith
+loop-less c = less-next _ _ (c .before .before .before .loop-test .taken)
 
 loop-again : tie.Need-loop-again Inv-loop μ-loop
 loop-again c =
@@ -50,16 +52,16 @@ loop-again c =
     rw (add-one (at .loop .i)) (removing-gone (at .before .before .pre) (at .loop .inv) (c .before .before .before .loop-test .taken) (c .before .if1 .taken))
 
 mul-rows : tie.Need-mul-rows Inv-loop μ-loop
-mul-rows c = omega arith
+mul-rows c = slot-fits _ (kept-below (c .before .before))
 
 array-set-from-rows : tie.Need-array-set-from-rows Inv-loop μ-loop
-array-set-from-rows c = omega arith
+array-set-from-rows c = kept-below (c .before .before)
 
 add-kept : tie.Need-add-kept Inv-loop μ-loop
-add-kept c = omega arith
+add-kept c = slot-turn-fits _ (kept-below (c .before .before))
 
 loop-less-2 : tie.Need-loop-less-2 Inv-loop μ-loop
-loop-less-2 c = omega arith
+loop-less-2 c = less-next _ _ (c .before .before .loop-test .taken)
 
 loop-again-2 : tie.Need-loop-again-2 Inv-loop μ-loop
 loop-again-2 c =

@@ -1,8 +1,10 @@
 -- `reservation::submission::admitted` meets its contract: after i rows the slots hold the held rows and those.
 use mathlib.Core.Path.{_≡_, refl}
-use Prim.Native.Nat.{_-_}
+use Prim.Native.Nat.{_-_, _+_, _<_}
 use native.Mathlib.Omega.{arith}
 use native.Mathlib.Numerals.{add-one}
+use Rattle.placement.proofs.Sums.{less-next}
+use Rattle.reservation.proofs.Sums.{own-below, own-fits, own-turn-fits, behind-below, behind-fits, slot-fits, rows-fit}
 use Rattle.reservation.proofs.Admission.{Filling, filling-none, filling-more, total-fits, filled}
 use Rattle.reservation.proofs.submission.admitted.Statement.{statement}
 use Rattle.reservation.proofs.submission.admitted.Tie as tie
@@ -16,35 +18,32 @@ abbrev μ-loop : tie.MeasureT-loop
 loop-holds : tie.Need-loop-holds Inv-loop μ-loop
 loop-holds c = filling-none (c .before .pre)
 
+row-below : (c : tie.In-loop Inv-loop μ-loop) → c .before .loop .i < 48
+row-below c = own-below _ _ (c .loop-test .taken) (c .before .before .before .pre .found-at-most)
+
+slot-at : (c : tie.In-loop Inv-loop μ-loop) → c .before .before .before .args .register .count + c .before .loop .i < 256
+slot-at c = behind-below _ _ _ (c .loop-test .taken) (c .before .before .before .pre .fits)
+
 mul-row : tie.Need-mul-row Inv-loop μ-loop
-mul-row c = omega arith
+mul-row c = own-fits _ (row-below c)
 
 element-copy-out-row : tie.Need-element-copy-out-row Inv-loop μ-loop
-element-copy-out-row c = omega arith
+element-copy-out-row c = row-below c
 
 add-rows : tie.Need-add-rows Inv-loop μ-loop
-add-rows c =
-    let ask = c .before .before .before .before .pre in
-    let fit = ask .fits in
-    omega arith
+add-rows c = behind-fits _ (slot-at (c .before))
 
 mul-rows : tie.Need-mul-rows Inv-loop μ-loop
-mul-rows c =
-    let ask = c .before .before .before .before .pre in
-    let fit = ask .fits in
-    omega arith
+mul-rows c = slot-fits _ (slot-at (c .before))
 
 array-set-from-rows : tie.Need-array-set-from-rows Inv-loop μ-loop
-array-set-from-rows c =
-    let ask = c .before .before .before .before .pre in
-    let fit = ask .fits in
-    omega arith
+array-set-from-rows c = slot-at (c .before)
 
 add-i : tie.Need-add-i Inv-loop μ-loop
-add-i c = omega arith
+add-i c = own-turn-fits _ (row-below (c .before))
 
 loop-less : tie.Need-loop-less Inv-loop μ-loop
-loop-less c = omega arith
+loop-less c = less-next _ _ (c .before .loop-test .taken)
 
 loop-again : tie.Need-loop-again Inv-loop μ-loop
 loop-again c =
@@ -52,7 +51,7 @@ loop-again c =
     rw (add-one (at .loop .i)) (filling-more (at .before .before .pre) (at .loop .inv) (c .before .loop-test .taken) _ refl)
 
 add-t18 : tie.Need-add-t18 Inv-loop μ-loop
-add-t18 c = let fit = c .before .before .before .before .pre .fits in omega arith
+add-t18 c = rows-fit _ (c .before .before .before .before .pre .fits)
 
 add-t21 : tie.Need-add-t21 Inv-loop μ-loop
 add-t21 c = let fit = total-fits (c .before .before .before .before .before .pre) in omega arith

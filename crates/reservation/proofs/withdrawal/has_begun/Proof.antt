@@ -7,6 +7,8 @@ use native.Mathlib.Numerals.{add-one}
 use lib.Dec.{eqb, leb}
 use lib.ListN.{length}
 use borrow.Author.Needs.{needs}
+use Rattle.placement.proofs.Sums.{less-next}
+use Rattle.reservation.proofs.Sums.{slot-below, slot-fits, slot-turn-fits}
 use borrow.Author.Tests.{eq-eqb, ne-eqb, le-leb, lt-leb}
 use Rattle.placement.proofs.Tasks.{length-mapped}
 use Rattle.rules.specs.Words.{of-job, row-limit}
@@ -27,26 +29,31 @@ all-rows c = search (length-mapped, needs)
 loop-holds : tie.Need-loop-holds Inv-loop μ-loop
 loop-holds c = (omega arith, refl)
 
+row-below : (c : tie.In-loop Inv-loop μ-loop) → c .before .loop .i < 256
+row-below c = slot-below _ _ (c .loop-test .taken) (c .before .before .pre)
+
+row-listed : (c : tie.In-loop Inv-loop μ-loop) → c .before .loop .i < length (c .before .before .args .t1)
+row-listed c = rw (all-rows (c .before .before)) (row-below c)
+
 mul-row : tie.Need-mul-row Inv-loop μ-loop
-mul-row c = omega arith
+mul-row c = slot-fits _ (row-below c)
 
 array-copy-out-row : tie.Need-array-copy-out-row Inv-loop μ-loop
-array-copy-out-row c = omega arith
+array-copy-out-row c = row-below c
 
 add-i : tie.Need-add-i Inv-loop μ-loop
-add-i c = omega arith
+add-i c = slot-turn-fits _ (row-below (c .before))
 
 loop-less : tie.Need-loop-less Inv-loop μ-loop
-loop-less c = omega arith
+loop-less c = less-next _ _ (c .before .before .before .loop-test .taken)
 
 loop-again : tie.Need-loop-again Inv-loop μ-loop
 loop-again c =
     let at = c .before .before .before .before in
     let a = at .before .args in
-    let l = all-rows (at .before) in
     rw
     (add-one (at .loop .i))
-    (omega arith, none-other _ (of-job (a .number)) (a .t1) (at .loop .i) (omega arith) (at .loop .inv .1) (ne-eqb _ (a .number) (c .if1 .taken)))
+    (c .before .before .before .loop-test .taken, none-other _ (of-job (a .number)) (a .t1) (at .loop .i) (row-listed (c .before .before .before)) (at .loop .inv .1) (ne-eqb _ (a .number) (c .if1 .taken)))
 
 returns : tie.Need-returns Inv-loop μ-loop
 returns c =
@@ -57,16 +64,15 @@ returns c =
     sym (one-found _ (of-job (a .number)) (a .t1) (a .count) (at .loop .i) (c .before .before .before .before .before .loop-test .taken) (omega arith) (eq-eqb _ (a .number) (c .before .before .if1 .left)) (le-leb _ (a .tick) (c .if2 .taken)))
 
 loop-less-2 : tie.Need-loop-less-2 Inv-loop μ-loop
-loop-less-2 c = omega arith
+loop-less-2 c = less-next _ _ (c .before .before .before .before .before .loop-test .taken)
 
 loop-again-2 : tie.Need-loop-again-2 Inv-loop μ-loop
 loop-again-2 c =
     let at = c .before .before .before .before .before .before in
     let a = at .before .args in
-    let l = all-rows (at .before) in
     rw
     (add-one (at .loop .i))
-    (omega arith, none-missed _ (of-job (a .number)) (a .t1) (at .loop .i) (omega arith) (at .loop .inv .1) (lt-leb _ (a .tick) (c .if2 .left)))
+    (c .before .before .before .before .before .loop-test .taken, none-missed _ (of-job (a .number)) (a .t1) (at .loop .i) (row-listed (c .before .before .before .before .before)) (at .loop .inv .1) (lt-leb _ (a .tick) (c .if2 .left)))
 
 returns-2 : tie.Need-returns-2 Inv-loop μ-loop
 returns-2 c =

@@ -3,8 +3,8 @@ use crate::Register;
 use placement::trial::blank;
 use rules::Row;
 ghost use mathlib.Core.Path.{_≡_};
-ghost use Prim.Native.Nat.{_≤_};
-ghost use lib.ListN.{take};
+ghost use Prim.Native.Nat.{_≤_, _<_};
+ghost use lib.ListN.{getD, take};
 ghost use Rattle.rules.specs.Sequences.{keep};
 ghost use Rattle.rules.specs.Words.{of-job, row-limit};
 ghost use Rattle.rules.specs.Withdrawing.{ended};
@@ -76,6 +76,25 @@ pub fn rows_of(rows: [Row; 256], count: usize, number: u64) -> [bool; 256]
     leaves
 }
 
+// Whether every row of the job of one row ends at or before the tick. That row is asked first: a row that is still to end spares a look at the others.
+fn job_of_row_ended<'a>(
+    jobs: &'a [u64; 256],
+    finishes: &'a [u64; 256],
+    count: usize,
+    at: usize,
+    tick: u64,
+) -> bool
+    requires { ⌜ AskEnded count × (at < count) ⌝ }
+    ensures { λ r. ⌜ EndedIs (now (jobs .entry)) (now (finishes .entry)) count (getD (now (jobs .entry)) at 0) tick r ⌝ }
+{
+    let own = finishes[at];
+    if tick < own {
+        return false;
+    }
+    let job = jobs[at];
+    job_ended(jobs, finishes, count, job, tick)
+}
+
 // The rows of jobs whose every row ends at or before the tick.
 pub fn rows_ended(rows: [Row; 256], count: usize, tick: u64) -> [bool; 256]
     requires { ⌜ count ≤ row-limit ⌝ }
@@ -85,8 +104,7 @@ pub fn rows_ended(rows: [Row; 256], count: usize, tick: u64) -> [bool; 256]
     let mut leaves = [false; 256];
     let mut i: usize = 0;
     while i < count {
-        let job = figures.jobs[i];
-        leaves[i] = job_ended(&figures.jobs, &figures.finishes, count, job, tick);
+        leaves[i] = job_of_row_ended(&figures.jobs, &figures.finishes, count, i, tick);
         i += 1;
     }
     leaves

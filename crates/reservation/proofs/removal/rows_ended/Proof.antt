@@ -6,7 +6,7 @@ use native.Mathlib.Omega.{arith}
 use native.Mathlib.Numerals.{add-one}
 use mathlib.Core.List.{List}
 use Rattle.placement.proofs.Sums.{less-next}
-use Rattle.reservation.proofs.Sums.{slot-below, slot-word-fits, slot-turn-fits}
+use Rattle.reservation.proofs.Sums.{slot-below, slot-turn-fits}
 use lib.ListN.{length, take}
 use borrow.Author.Needs.{needs}
 use Rattle.placement.proofs.Tasks.{length-mapped}
@@ -37,38 +37,32 @@ loop-holds c = (omega arith, λ rows a b l. made-none false _ rows _ refl)
 row-below : (c : tie.In-loop Inv-loop μ-loop) → c .before .loop .i < 256
 row-below c = slot-below _ _ (c .loop-test .taken) (c .before .before .before .pre)
 
-mul-job : tie.Need-mul-job Inv-loop μ-loop
-mul-job c = slot-word-fits _ (row-below c)
-
-element-copy-out-job : tie.Need-element-copy-out-job Inv-loop μ-loop
-element-copy-out-job c = row-below c
-
-job-ended-requires : tie.Need-job-ended-requires Inv-loop μ-loop
-job-ended-requires c κs = record { count-at-most = c .before .before .before .before .before .before .before .pre }
+job-of-row-ended-requires : tie.Need-job-of-row-ended-requires Inv-loop μ-loop
+job-of-row-ended-requires c κs = (record { count-at-most = c .before .before .before .before .before .before .pre }, c .before .before .before .loop-test .taken)
 
 array-write-leaves : tie.Need-array-write-leaves Inv-loop μ-loop
-array-write-leaves c = row-below (c .before .before .before .before .before)
+array-write-leaves c = row-below (c .before .before .before .before)
 
 add-i : tie.Need-add-i Inv-loop μ-loop
-add-i c = slot-turn-fits _ (row-below (c .before .before .before .before .before))
+add-i c = slot-turn-fits _ (row-below (c .before .before .before .before))
 
 loop-less : tie.Need-loop-less Inv-loop μ-loop
-loop-less c = less-next _ _ (c .before .before .before .before .before .loop-test .taken)
+loop-less c = less-next _ _ (c .before .before .before .before .loop-test .taken)
 
 loop-again : tie.Need-loop-again Inv-loop μ-loop
 loop-again c =
-    let at = c .before .before .before .before .before .before in
+    let at = c .before .before .before .before .before in
     let a = at .before .before .args in
-    let h = c .before .before .before .before .before .loop-test .taken in
+    let h = c .before .before .before .before .loop-test .taken in
     rw
     (add-one (at .loop .i)) (
       h,
       λ rows jobs finishes l.
           made-more
           (at .loop .inv .1 rows jobs finishes l)
-          (row-below (c .before .before .before .before .before))
-          (c .job-ended .result)
-          (c .job-ended .ensures rows jobs finishes l ∙ ap (λ n. ended (a .tick) (keep (of-job n) (take (a .count) rows))) (jobs .is (at .loop .i) h)),
+          (row-below (c .before .before .before .before))
+          (c .job-of-row-ended .result)
+          (c .job-of-row-ended .ensures rows jobs finishes l ∙ ap (λ n. ended (a .tick) (keep (of-job n) (take (a .count) rows))) (jobs .is (at .loop .i) h)),
     )
 
 returns : tie.Need-returns Inv-loop μ-loop
@@ -80,4 +74,4 @@ returns c =
     record { long = m .long; is = λ i h. m .is i (omega arith) }
 
 pub rows-ended-spec : {M : Type 1} → statement M
-rows-ended-spec = tie.close (tie.spec Inv-loop μ-loop figures-of-requires loop-holds mul-job element-copy-out-job job-ended-requires array-write-leaves add-i loop-less loop-again returns)
+rows-ended-spec = tie.close (tie.spec Inv-loop μ-loop figures-of-requires loop-holds job-of-row-ended-requires array-write-leaves add-i loop-less loop-again returns)

@@ -1,0 +1,15 @@
+//! Links the archive that `rt staticlib script` writes.
+
+use std::path::Path;
+
+fn main() {
+    let folder = Path::new(env!("CARGO_MANIFEST_DIR")).join("../../target/staticlib");
+    let archive = folder.join("libscript.a");
+    println!("cargo:rerun-if-changed={}", archive.display());
+    assert!(
+        archive.is_file(),
+        "target/staticlib/libscript.a is not there: run `rt staticlib script` first"
+    );
+    println!("cargo:rustc-link-search=native={}", folder.display());
+    println!("cargo:rustc-link-lib=static=script");
+}

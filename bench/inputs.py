@@ -5,7 +5,8 @@
 
 Each goes to FOLDER/NAME.script; the same seed gives the same bytes.
 
-    mixed       submissions of 1 to 6 tasks with messages, withdrawals, clock moves, and some of every refusal
+    mixed       submissions of 1 to 6 tasks with messages, withdrawals, clock moves, and some of every refusal that a call
+                gives (but 2, which the reader forestalls)
     dense       small jobs that compete for the same ticks of a register that is nearly full
     listing     256 rows from six jobs, on machines and links, and then the end
     worst       240 rows of one machine, each earlier than the last, and jobs of 16 tasks and 32 messages over them

@@ -62,7 +62,8 @@ impl Buffers {
             Ok(_) => "differs from the baseline".into(),
             Err(wrong) => wrong,
         };
-        let kept = Path::new(env!("CARGO_TARGET_TMPDIR")).join("different.script");
+        let kept = format!("{}.script", name.replace([' ', ','], "-"));
+        let kept = Path::new(env!("CARGO_TARGET_TMPDIR")).join(kept);
         fs::write(&kept, script).unwrap();
         panic!("{name}: {wrong}; the script is in {}", kept.display());
     }

@@ -135,3 +135,23 @@ module _
 
         pub attempt-is : AttemptIs s j machines done t m release resources starts finishes used resources′ starts′ finishes′ it
         attempt-is = record { columns = record { widths = found .widths; same = found .same }; bounds = attempt-bounds; is = attempt-trial }
+
+        -- the same, with the count that the code makes
+        pub attempt-made :
+            AttemptIs
+            s
+            j
+            machines
+            done
+            t
+            m
+            release
+            resources
+            starts
+            finishes
+            used
+            resources′
+            starts′
+            finishes′
+            (record { rows = set rows count own; count = count + 1; cost = cost + own .cost; start = start; finish = own .finish })
+        attempt-made = rw (add-one count) attempt-is

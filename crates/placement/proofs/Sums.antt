@@ -50,8 +50,50 @@ standing-fits i h = omega arith
 pub sender-below : (t : ℕ) → (1 ≤ t) × (t ≤ most-tasks) → t - 1 < 16
 sender-below t h = omega arith
 
+pub task-turn-below : (t n : ℕ) → t < n → n ≤ most-tasks → t < 16
+task-turn-below t n h m = omega arith
+
 pub task-turn-fits : (t n : ℕ) → t < n → n ≤ most-tasks → Fits w64 (t + 1)
 task-turn-fits t n h m = omega arith
+
+-- a turn for each row held
+pub held-below : (i n : ℕ) → i < n → n ≤ row-limit → i < 256
+held-below i n h m = omega arith
+
+pub held-fits : (i : ℕ) → i < 256 → Fits w64 (i * 72)
+held-fits i h = omega arith
+
+pub held-turn-fits : (i : ℕ) → i < 256 → Fits w64 (i + 1)
+held-turn-fits i h = omega arith
+
+pub held-in-room : (i : ℕ) → i < 256 → i < room
+held-in-room i h = omega arith
+
+-- a turn for each entry of the columns
+pub below-room : (i n : ℕ) → i < n → n ≤ room → i < room
+below-room i n h m = omega arith
+
+pub entry-fits : (i : ℕ) → i < room → Fits w64 (i * 8)
+entry-fits i h = omega arith
+
+pub entry-turn-fits : (i : ℕ) → i < room → Fits w64 (i + 1)
+entry-turn-fits i h = omega arith
+
+-- a turn for each row of a trial, behind those of the job and those used
+pub tried-below : (i n : ℕ) → i < n → n ≤ most-messages + 1 → i < 33
+tried-below i n h m = omega arith
+
+pub behind-below : (a i n most : ℕ) → i < n → a + n ≤ most → a + i < most
+behind-below a i n most h m = omega arith
+
+pub own-fits : (n : ℕ) → n < 48 → Fits w64 n
+own-fits n h = omega arith
+
+pub own-row-fits : (n : ℕ) → n < 48 → Fits w64 (n * 72)
+own-row-fits n h = omega arith
+
+pub own-all-fits : (n : ℕ) → n ≤ most-own → Fits w64 n
+own-all-fits n h = omega arith
 
 -- a turn for each machine
 pub machine-below : (m n : ℕ) → m < n → n ≤ most-machines → m < 4

@@ -1,10 +1,11 @@
 -- `placement::columns::fill` meets its contract: after i turns the columns mirror the first i rows.
 use mathlib.Core.Path.{_≡_}
-use Prim.Native.Nat.{_-_}
+use Prim.Native.Nat.{_-_, _<_}
 use native.Mathlib.Omega.{arith}
 use native.Mathlib.Numerals.{add-one}
 use lib.ListN.{length}
 use borrow.Author.Needs.{needs}
+use Rattle.placement.proofs.Sums.{less-next, held-below, held-fits, held-turn-fits, held-in-room}
 use Rattle.placement.proofs.Mirror.{Filled, filled-none, filled-more}
 use Rattle.placement.proofs.columns.fill.Statement.{statement}
 use Rattle.placement.proofs.columns.fill.Tie as tie
@@ -18,22 +19,25 @@ abbrev μ-loop : tie.MeasureT-loop
 loop-holds : tie.Need-loop-holds Inv-loop μ-loop
 loop-holds c = filled-none (c .args .t1) (c .args .count) (c .pre .widths)
 
+row-below : (c : tie.In-loop Inv-loop μ-loop) → c .before .loop .i < 256
+row-below c = held-below _ _ (c .loop-test .taken) (c .before .before .pre .count-at-most)
+
 mul-row : tie.Need-mul-row Inv-loop μ-loop
-mul-row c = omega arith
+mul-row c = held-fits _ (row-below c)
 
 array-copy-out-row : tie.Need-array-copy-out-row Inv-loop μ-loop
-array-copy-out-row c = omega arith
+array-copy-out-row c = row-below c
 
 put-requires : tie.Need-put-requires Inv-loop μ-loop
 put-requires c κs =
     let at = c .before .before .before .before .before in
-    (omega arith, at .before .pre .numbered (at .loop .i) (c .before .before .before .before .loop-test .taken))
+    (held-in-room _ (row-below (c .before .before .before .before)), at .before .pre .numbered (at .loop .i) (c .before .before .before .before .loop-test .taken))
 
 add-i : tie.Need-add-i Inv-loop μ-loop
-add-i c = omega arith
+add-i c = held-turn-fits _ (row-below (c .before .before .before .before .before))
 
 loop-less : tie.Need-loop-less Inv-loop μ-loop
-loop-less c = omega arith
+loop-less c = less-next _ _ (c .before .before .before .before .before .loop-test .taken)
 
 loop-again : tie.Need-loop-again Inv-loop μ-loop
 loop-again c =

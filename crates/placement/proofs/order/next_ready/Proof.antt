@@ -1,8 +1,9 @@
 -- `placement::order::next_ready` meets its contract: after t tasks the best is the foremost of those of them that are ready.
 use mathlib.Core.Logic.{⊎-elim}
-use Prim.Native.Nat.{_-_}
+use Prim.Native.Nat.{_-_, _<_}
 use native.Mathlib.Omega.{arith}
 use borrow.Author.Tests.{leb-true, leb-false, not-true, not-false}
+use Rattle.placement.proofs.Sums.{less-next, task-turn-below, task-turn-fits, task-fits}
 use Rattle.placement.proofs.Tasks.{Best, best-none, best-unready, best-kept, best-taken, best-found}
 use Rattle.placement.proofs.order.next_ready.Statement.{statement}
 use Rattle.placement.proofs.order.next_ready.Tie as tie
@@ -16,20 +17,23 @@ abbrev μ-loop : tie.MeasureT-loop
 loop-holds : tie.Need-loop-holds Inv-loop μ-loop
 loop-holds c = best-none _ _ _
 
+its-below : (c : tie.In-loop Inv-loop μ-loop) → c .before .loop .t < 16
+its-below c = task-turn-below _ _ (c .loop-test .taken) (c .before .before .pre .tasks)
+
 mul-its : tie.Need-mul-its Inv-loop μ-loop
-mul-its c = omega arith
+mul-its c = task-fits _ (its-below c)
 
 element-copy-out-its : tie.Need-element-copy-out-its Inv-loop μ-loop
-element-copy-out-its c = omega arith
+element-copy-out-its c = its-below c
 
 add-t : tie.Need-add-t Inv-loop μ-loop
-add-t c = omega arith
+add-t c = task-turn-fits _ _ (c .loop-test .taken) (c .before .before .pre .tasks)
 
 is-ready-requires : tie.Need-is-ready-requires Inv-loop μ-loop
 is-ready-requires c κs = record { order = c .before .before .pre; listed = record { first = omega arith; last = omega arith } }
 
 loop-less : tie.Need-loop-less Inv-loop μ-loop
-loop-less c = omega arith
+loop-less c = less-next _ _ (c .before .before .loop-test .taken)
 
 loop-again : tie.Need-loop-again Inv-loop μ-loop
 loop-again c =
@@ -40,7 +44,7 @@ loop-again c =
     (not-true _ (c .if1 .taken))
 
 loop-less-2 : tie.Need-loop-less-2 Inv-loop μ-loop
-loop-less-2 c = omega arith
+loop-less-2 c = less-next _ _ (c .before .before .before .before .loop-test .taken)
 
 loop-again-2 : tie.Need-loop-again-2 Inv-loop μ-loop
 loop-again-2 c =
@@ -54,7 +58,7 @@ loop-again-2 c =
     (leb-true _ _ (c .if3 .taken))
 
 loop-less-3 : tie.Need-loop-less-3 Inv-loop μ-loop
-loop-less-3 c = omega arith
+loop-less-3 c = less-next _ _ (c .before .before .before .loop-test .taken)
 
 loop-again-3 : tie.Need-loop-again-3 Inv-loop μ-loop
 loop-again-3 c =

@@ -1,6 +1,7 @@
 -- `placement::order::release_time` meets its contract: after t tasks the sum is that of the dispatch times of those of them that are placed.
-use Prim.Native.Nat.{_-_}
+use Prim.Native.Nat.{_-_, _<_}
 use native.Mathlib.Omega.{arith}
+use Rattle.placement.proofs.Sums.{less-next, task-turn-below, task-turn-fits, task-below, task-fits, standing-fits}
 use Rattle.placement.proofs.Tasks.{Summed, summed-none, summed-unplaced, summed-placed, summed-release, dispatch-at-most}
 use Rattle.placement.proofs.order.release_time.Statement.{statement}
 use Rattle.placement.proofs.order.release_time.Tie as tie
@@ -14,17 +15,20 @@ abbrev μ-loop : tie.MeasureT-loop
 loop-holds : tie.Need-loop-holds Inv-loop μ-loop
 loop-holds c = summed-none _ _ _
 
+its-below : (c : tie.In-loop Inv-loop μ-loop) → c .before .loop .t < 16
+its-below c = task-turn-below _ _ (c .loop-test .taken) (c .before .before .pre .order .tasks)
+
 add-t : tie.Need-add-t Inv-loop μ-loop
-add-t c = omega arith
+add-t c = task-turn-fits _ _ (c .loop-test .taken) (c .before .before .pre .order .tasks)
 
 mul-if1 : tie.Need-mul-if1 Inv-loop μ-loop
-mul-if1 c = omega arith
+mul-if1 c = standing-fits _ (its-below c)
 
 element-copy-out-if1 : tie.Need-element-copy-out-if1 Inv-loop μ-loop
-element-copy-out-if1 c = omega arith
+element-copy-out-if1 c = its-below c
 
 loop-less : tie.Need-loop-less Inv-loop μ-loop
-loop-less c = omega arith
+loop-less c = less-next _ _ (c .before .before .loop-test .taken)
 
 loop-again : tie.Need-loop-again Inv-loop μ-loop
 loop-again c =
@@ -32,10 +36,10 @@ loop-again c =
     summed-unplaced (at .before .before .pre) (at .before .loop .inv) (at .loop-test .taken) (c .if1 .taken)
 
 mul-sum : tie.Need-mul-sum Inv-loop μ-loop
-mul-sum c = omega arith
+mul-sum c = task-fits _ (its-below (c .before .before))
 
 element-copy-out-sum : tie.Need-element-copy-out-sum Inv-loop μ-loop
-element-copy-out-sum c = omega arith
+element-copy-out-sum c = its-below (c .before .before)
 
 add-sum : tie.Need-add-sum Inv-loop μ-loop
 add-sum c =
@@ -44,7 +48,7 @@ add-sum c =
     omega arith
 
 loop-less-2 : tie.Need-loop-less-2 Inv-loop μ-loop
-loop-less-2 c = omega arith
+loop-less-2 c = less-next _ _ (c .before .before .loop-test .taken)
 
 loop-again-2 : tie.Need-loop-again-2 Inv-loop μ-loop
 loop-again-2 c =
@@ -52,7 +56,7 @@ loop-again-2 c =
     summed-placed (at .before .before .pre) (at .before .loop .inv) (at .loop-test .taken) (c .if1 .left)
 
 sub-own : tie.Need-sub-own Inv-loop μ-loop
-sub-own c = omega arith
+sub-own c = c .before .before .pre .listed .first
 
 add-result : tie.Need-add-result Inv-loop μ-loop
 add-result c = omega arith
@@ -60,11 +64,14 @@ add-result c = omega arith
 add-result-2 : tie.Need-add-result-2 Inv-loop μ-loop
 add-result-2 c = omega arith
 
+own-below : (c : tie.After-loop Inv-loop μ-loop) → c .before .before .args .task - 1 < 16
+own-below c = let ask = c .before .before .pre in task-below _ _ (ask .listed .first) (ask .listed .last) (ask .order .tasks)
+
 mul-result : tie.Need-mul-result Inv-loop μ-loop
-mul-result c = omega arith
+mul-result c = task-fits _ (own-below c)
 
 element-copy-out-result : tie.Need-element-copy-out-result Inv-loop μ-loop
-element-copy-out-result c = omega arith
+element-copy-out-result c = own-below c
 
 add-result-3 : tie.Need-add-result-3 Inv-loop μ-loop
 add-result-3 c =

@@ -1,8 +1,11 @@
 -- `placement::place::append` meets its contract: after i turns i rows of the trial follow those of the job.
 use mathlib.Core.Path.{refl}
-use Prim.Native.Nat.{_-_}
+use Prim.Native.Nat.{_-_, _+_, _<_}
 use native.Mathlib.Omega.{arith}
 use native.Mathlib.Numerals.{add-one}
+use Rattle.placement.specs.Columns.{room}
+use Rattle.placement.specs.Placements.{most-own}
+use Rattle.placement.proofs.Sums.{less-next, tried-below, behind-below, row-fits, count-fits, room-fits, own-fits, own-row-fits, own-all-fits}
 use Rattle.placement.proofs.Appending.{Appending, appending-none, appending-more, appending-all}
 use Rattle.placement.proofs.place.append.Statement.{statement}
 use Rattle.placement.proofs.place.append.Tie as tie
@@ -17,34 +20,43 @@ abbrev μ-loop : tie.MeasureT-loop
 loop-holds : tie.Need-loop-holds Inv-loop μ-loop
 loop-holds c = appending-none (c .before .pre)
 
+row-below : (c : tie.In-loop Inv-loop μ-loop) → c .before .loop .i < 33
+row-below c = tried-below _ _ (c .loop-test .taken) (c .before .before .before .pre .bounds .count-at-most)
+
+slot-below : (c : tie.In-loop Inv-loop μ-loop) → c .before .before .before .args .own .count + c .before .loop .i < 48
+slot-below c = behind-below _ _ _ most-own (c .loop-test .taken) (c .before .before .before .pre .rows-fit)
+
+span-below : (c : tie.In-loop Inv-loop μ-loop) → c .before .before .before .args .used + c .before .loop .i < room
+span-below c = behind-below _ _ _ room (c .loop-test .taken) (c .before .before .before .pre .spans-fit)
+
 mul-row : tie.Need-mul-row Inv-loop μ-loop
-mul-row c = omega arith
+mul-row c = row-fits _ (row-below c)
 
 element-copy-out-row : tie.Need-element-copy-out-row Inv-loop μ-loop
-element-copy-out-row c = omega arith
+element-copy-out-row c = row-below c
 
 add-rows : tie.Need-add-rows Inv-loop μ-loop
-add-rows c = omega arith
+add-rows c = own-fits _ (slot-below (c .before))
 
 mul-rows : tie.Need-mul-rows Inv-loop μ-loop
-mul-rows c = omega arith
+mul-rows c = own-row-fits _ (slot-below (c .before))
 
 array-set-from-rows : tie.Need-array-set-from-rows Inv-loop μ-loop
-array-set-from-rows c = omega arith
+array-set-from-rows c = slot-below (c .before)
 
 add-put : tie.Need-add-put Inv-loop μ-loop
-add-put c = omega arith
+add-put c = room-fits _ (span-below (c .before))
 
 put-requires : tie.Need-put-requires Inv-loop μ-loop
 put-requires c κs =
     let at = c .before .before .before .before .before in
-    (omega arith, at .before .before .pre .numbered (at .loop .i) (c .before .before .before .before .loop-test .taken))
+    (span-below (c .before .before .before .before), at .before .before .pre .numbered (at .loop .i) (c .before .before .before .before .loop-test .taken))
 
 add-i : tie.Need-add-i Inv-loop μ-loop
-add-i c = omega arith
+add-i c = count-fits _ (row-below (c .before .before .before .before .before))
 
 loop-less : tie.Need-loop-less Inv-loop μ-loop
-loop-less c = omega arith
+loop-less c = less-next _ _ (c .before .before .before .before .before .loop-test .taken)
 
 loop-again : tie.Need-loop-again Inv-loop μ-loop
 loop-again c =
@@ -55,7 +67,7 @@ loop-again c =
     (appending-more (at .before .before .pre) (at .loop .inv) (c .before .before .before .before .before .loop-test .taken) _ refl)
 
 add-t25 : tie.Need-add-t25 Inv-loop μ-loop
-add-t25 c = omega arith
+add-t25 c = own-all-fits _ (c .before .before .before .pre .rows-fit)
 
 add-t27 : tie.Need-add-t27 Inv-loop μ-loop
 add-t27 c = omega arith

@@ -6,6 +6,7 @@ use native.Mathlib.Numerals.{add-one}
 use lib.ListN.{length}
 use borrow.Author.Needs.{needs}
 use Rattle.placement.specs.Columns.{spans-of, tick-bound, room}
+use Rattle.placement.proofs.Sums.{less-next, below-room, entry-fits, entry-turn-fits}
 use Rattle.placement.proofs.Passes.{Swept, swept-none, swept-more}
 use Rattle.placement.proofs.search.sweep.Statement.{statement}
 use Rattle.placement.proofs.search.sweep.Tie as tie
@@ -21,23 +22,26 @@ loop-holds c =
     let a = c .args in
     swept-none (a .resources .now) (a .starts .now) (a .finishes .now) (a .count) (a .key) (a .from) (a .len) (c .pre .from-below)
 
+entry-below : (c : tie.In-loop Inv-loop μ-loop) → c .before .loop .i < room
+entry-below c = below-room _ _ (c .loop-test .taken) (c .before .before .pre .spans .within)
+
 mul-past : tie.Need-mul-past Inv-loop μ-loop
-mul-past c = omega arith
+mul-past c = entry-fits _ (entry-below c)
 
 element-copy-out-past : tie.Need-element-copy-out-past Inv-loop μ-loop
-element-copy-out-past c = omega arith
+element-copy-out-past c = entry-below c
 
 mul-past-2 : tie.Need-mul-past-2 Inv-loop μ-loop
-mul-past-2 c = omega arith
+mul-past-2 c = entry-fits _ (entry-below (c .before))
 
 element-copy-out-past-2 : tie.Need-element-copy-out-past-2 Inv-loop μ-loop
-element-copy-out-past-2 c = omega arith
+element-copy-out-past-2 c = entry-below (c .before)
 
 mul-past-3 : tie.Need-mul-past-3 Inv-loop μ-loop
-mul-past-3 c = omega arith
+mul-past-3 c = entry-fits _ (entry-below (c .before .before))
 
 element-copy-out-past-3 : tie.Need-element-copy-out-past-3 Inv-loop μ-loop
-element-copy-out-past-3 c = omega arith
+element-copy-out-past-3 c = entry-below (c .before .before)
 
 past-requires : tie.Need-past-requires Inv-loop μ-loop
 past-requires c κs =
@@ -46,10 +50,10 @@ past-requires c κs =
     (omega arith, pre .len-above, pre .spans .lasts (at .loop .i) (c .before .before .before .loop-test .taken))
 
 add-i : tie.Need-add-i Inv-loop μ-loop
-add-i c = omega arith
+add-i c = entry-turn-fits _ (entry-below (c .before .before .before .before))
 
 loop-less : tie.Need-loop-less Inv-loop μ-loop
-loop-less c = omega arith
+loop-less c = less-next _ _ (c .before .before .before .before .loop-test .taken)
 
 loop-again : tie.Need-loop-again Inv-loop μ-loop
 loop-again c =

@@ -2,11 +2,10 @@
 use mathlib.Core.Path.{refl}
 use Prim.Native.Nat.{ℕ, _-_, _+_, _*_, _^_, _<_, _≤_}
 use native.Mathlib.Omega.{arith}
-use native.Mathlib.Numerals.{add-one}
 use Rattle.rules.specs.Words.{most-messages}
 use Rattle.rules.specs.Bounds.{largest-cost}
 use Rattle.placement.proofs.Sums.{task-below, task-fits, on-machine-below, machine-fits, row-fits, count-fits, cost-fits}
-use Rattle.placement.proofs.Attempts.{attempt-searchable, attempt-there, ask-own, own-figures, attempt-is}
+use Rattle.placement.proofs.Attempts.{attempt-searchable, attempt-there, ask-own, own-figures, attempt-made}
 use Rattle.placement.proofs.trial.attempt.Statement.{statement}
 use Rattle.placement.proofs.trial.attempt.Tie as tie
 
@@ -74,15 +73,13 @@ add-t25 c = cost-fits _ (own-at (c .before .before) .1)
 returns : tie.Need-returns
 returns c =
     let start = c .before .before .before .before .before .before .before .before .before .before .before .before .before .before in
-    rw
-    (add-one (c .before .before .before .before .before .before .before .before .before .before .try-messages .result .count))
-    (attempt-is
+    attempt-made
     (start .pre)
     (c .before .before .before .before .before .before .before .before .before .before .try-messages .ensures)
     (c .before .before .before .before .least-free .result)
     (c .before .before .before .before .least-free .ensures)
     (c .before .before .before .task-row .result)
-    (c .before .before .before .task-row .ensures (start .args .t2) refl refl))
+    (c .before .before .before .task-row .ensures (start .args .t2) refl refl)
 
 pub attempt-spec : {M : Type 1} → statement M
 attempt-spec =

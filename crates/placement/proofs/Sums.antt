@@ -66,9 +66,6 @@ held-fits i h = omega arith
 pub held-turn-fits : (i : ℕ) → i < 256 → Fits w64 (i + 1)
 held-turn-fits i h = omega arith
 
-pub held-in-room : (i : ℕ) → i < 256 → i < room
-held-in-room i h = omega arith
-
 -- a turn for each entry of the columns
 pub below-room : (i n : ℕ) → i < n → n ≤ room → i < room
 below-room i n h m = omega arith

@@ -5,7 +5,7 @@ use native.Mathlib.Omega.{arith}
 use native.Mathlib.Numerals.{add-one}
 use lib.ListN.{length}
 use borrow.Author.Needs.{needs}
-use Rattle.placement.proofs.Sums.{less-next, held-below, held-fits, held-turn-fits, held-in-room}
+use Rattle.placement.proofs.Sums.{less-next, held-below, held-fits, held-turn-fits}
 use Rattle.placement.proofs.Mirror.{Filled, filled-none, filled-more}
 use Rattle.placement.proofs.columns.fill.Statement.{statement}
 use Rattle.placement.proofs.columns.fill.Tie as tie
@@ -31,7 +31,7 @@ array-copy-out-row c = row-below c
 put-requires : tie.Need-put-requires Inv-loop μ-loop
 put-requires c κs =
     let at = c .before .before .before .before .before in
-    (held-in-room _ (row-below (c .before .before .before .before)), at .before .pre .numbered (at .loop .i) (c .before .before .before .before .loop-test .taken))
+    (omega arith, at .before .pre .numbered (at .loop .i) (c .before .before .before .before .loop-test .taken))
 
 add-i : tie.Need-add-i Inv-loop μ-loop
 add-i c = held-turn-fits _ (row-below (c .before .before .before .before .before))

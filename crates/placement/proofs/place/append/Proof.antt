@@ -3,9 +3,8 @@ use mathlib.Core.Path.{refl}
 use Prim.Native.Nat.{_-_, _+_, _<_}
 use native.Mathlib.Omega.{arith}
 use native.Mathlib.Numerals.{add-one}
-use Rattle.placement.specs.Columns.{room}
 use Rattle.placement.specs.Placements.{most-own}
-use Rattle.placement.proofs.Sums.{less-next, tried-below, behind-below, row-fits, count-fits, room-fits, own-fits, own-row-fits, own-all-fits}
+use Rattle.placement.proofs.Sums.{less-next, tried-below, behind-below, row-fits, count-fits, own-fits, own-row-fits, own-all-fits}
 use Rattle.placement.proofs.Appending.{Appending, appending-none, appending-more, appending-all}
 use Rattle.placement.proofs.place.append.Statement.{statement}
 use Rattle.placement.proofs.place.append.Tie as tie
@@ -26,9 +25,6 @@ row-below c = tried-below _ _ (c .loop-test .taken) (c .before .before .before .
 slot-below : (c : tie.In-loop Inv-loop μ-loop) → c .before .before .before .args .own .count + c .before .loop .i < 48
 slot-below c = behind-below _ _ _ most-own (c .loop-test .taken) (c .before .before .before .pre .rows-fit)
 
-span-below : (c : tie.In-loop Inv-loop μ-loop) → c .before .before .before .args .used + c .before .loop .i < room
-span-below c = behind-below _ _ _ room (c .loop-test .taken) (c .before .before .before .pre .spans-fit)
-
 mul-row : tie.Need-mul-row Inv-loop μ-loop
 mul-row c = row-fits _ (row-below c)
 
@@ -45,12 +41,12 @@ array-set-from-rows : tie.Need-array-set-from-rows Inv-loop μ-loop
 array-set-from-rows c = slot-below (c .before)
 
 add-put : tie.Need-add-put Inv-loop μ-loop
-add-put c = room-fits _ (span-below (c .before))
+add-put c = omega arith
 
 put-requires : tie.Need-put-requires Inv-loop μ-loop
 put-requires c κs =
     let at = c .before .before .before .before .before in
-    (span-below (c .before .before .before .before), at .before .before .pre .numbered (at .loop .i) (c .before .before .before .before .loop-test .taken))
+    (omega arith, at .before .before .pre .numbered (at .loop .i) (c .before .before .before .before .loop-test .taken))
 
 add-i : tie.Need-add-i Inv-loop μ-loop
 add-i c = count-fits _ (row-below (c .before .before .before .before .before))

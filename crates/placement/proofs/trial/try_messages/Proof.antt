@@ -1,12 +1,13 @@
 -- `placement::trial::try_messages` meets its contract: after i messages the rows tried are those of the rules.
 use mathlib.Core.Path.{_≡_, refl}
 use Prim.Native.Nat.{_-_, _+_, _^_, _<_, _≤_}
+use native.Mathlib.Omega.{arith}
 use lib.ListN.{length, getD}
 use Rattle.rules.specs.declared.Message.{Message}
 use Rattle.rules.specs.Words.{most-messages, most-tasks}
 use Rattle.placement.specs.Columns.{room}
 use Rattle.placement.specs.Asked.{Numbered}
-use Rattle.placement.proofs.Sums.{less-next, turn-below, turn-fits, message-fits, row-fits, count-fits, room-fits, cost-fits, standing-fits, sender-below}
+use Rattle.placement.proofs.Sums.{less-next, turn-below, turn-fits, message-fits, row-fits, room-fits, cost-fits, standing-fits, sender-below}
 use Rattle.placement.proofs.Tasks.{length-mapped}
 use Rattle.placement.proofs.Gathered.{Gathered, gathered-none, gathered-other-next, gathered-without-next, gathered-with-next, gathered-all}
 use Rattle.placement.proofs.Gathered.{sender-listed, room-left, ask-input, input-fits}
@@ -141,7 +142,7 @@ add-cost : tie.Need-add-cost Inv-loop μ-loop
 add-cost c = cost-fits _ (row-is-fit (c .before .before .before .before .before .before) .3)
 
 add-count : tie.Need-add-count Inv-loop μ-loop
-add-count c = count-fits _ (row-is-fit (c .before .before .before .before .before .before) .2)
+add-count c = let few = row-is-fit (c .before .before .before .before .before .before) .2 in omega arith
 
 loop-less-4 : tie.Need-loop-less-4 Inv-loop μ-loop
 loop-less-4 c = less-next _ _ (c .before .before .before .before .before .before .before .before .before .before .before .before .before .before .before .before .before .before .before .loop-test .taken)

@@ -15,7 +15,7 @@ use Rattle.rules.specs.Laws.{Free, IsLeast}
 use Rattle.rules.proofs.Sequences.{by-test}
 use Rattle.rules.proofs.LeastTick.{free-true, meets-shares, least-is-least, least-unique, least-at-most}
 use Rattle.placement.specs.Columns.{entry, spans-of, tick-bound, Lasting}
-use Rattle.placement.specs.Passes.{beyond, swept}
+use Rattle.placement.specs.Passes.{beyond, swept, swept-back}
 
 -- One span.
 
@@ -75,12 +75,9 @@ pub swept-still : (len : ℕ) (spans : List Span) (tick : ℕ) → swept len spa
 unfolding free
 swept-still len spans tick e = free-true len spans tick (ap not (unmet len spans tick e))
 
--- no tick that a pass moves over is free
-pub swept-over : (len : ℕ) (spans : List Span) (tick x : ℕ) → tick ≤ x → x < swept len spans tick → Free len spans x → ⊥
-swept-over len [] tick x a b f = omega arith
-swept-over len (s ∷ spans) tick x a b f =
-    let rest : Free len spans x = λ y p q taken. f y p q (taken .0, List·Memᴰ·tail (taken .1), taken .2) in
-    let onward : beyond len s tick ≤ x → ⊥ = λ h. swept-over len spans (beyond len s tick) x h b rest in
+-- no tick that is moved over past a span is free
+beyond-over : (len : ℕ) (s : Span) (spans : List Span) (tick x : ℕ) → tick ≤ x → x < beyond len s tick → Free len (s ∷ spans) x → ⊥
+beyond-over len s spans tick x a b f =
     beyond-cases
     len
     s
@@ -90,13 +87,42 @@ swept-over len (s ∷ spans) tick x a b f =
     let from = shared .1 .1 in
     let low = shared .2 .0 in
     let high = shared .2 .1 in
+    f (max x (s .start)) (omega arith) (omega arith) (s, List·Memᴰ·head refl, (omega arith, omega arith)))
+    (λ h e. omega arith)
+
+-- free of more spans, free of fewer
+free-rest : (len : ℕ) (s : Span) (spans : List Span) (x : ℕ) → Free len (s ∷ spans) x → Free len spans x
+free-rest len s spans x f = λ y p q taken. f y p q (taken .0, List·Memᴰ·tail (taken .1), taken .2)
+
+-- no tick that a pass moves over is free
+pub swept-over : (len : ℕ) (spans : List Span) (tick x : ℕ) → tick ≤ x → x < swept len spans tick → Free len spans x → ⊥
+swept-over len [] tick x a b f = omega arith
+swept-over len (s ∷ spans) tick x a b f =
     by-test
-    (leb (s .finish) x)
-    (λ t. let past = leb-true (s .finish) x t in onward (omega arith))
-    (λ t.
-    let before = leb-false (s .finish) x t in
-    f (max x (s .start)) (omega arith) (omega arith) (s, List·Memᴰ·head refl, (omega arith, omega arith))))
-    (λ h e. onward (omega arith))
+    (leb (beyond len s tick) x)
+    (λ t. swept-over len spans (beyond len s tick) x (leb-true (beyond len s tick) x t) b (free-rest len s spans x f))
+    (λ t. beyond-over len s spans tick x a (leb-false (beyond len s tick) x t) f)
+
+-- A pass from the last span to the first.
+
+back-append : (len : ℕ) (a b : List Span) (tick : ℕ) → swept-back len (a ++ b) tick ≡ swept-back len a (swept-back len b tick)
+back-append len [] b tick = refl
+back-append len (s ∷ a) b tick = ap (beyond len s) (back-append len a b tick)
+
+beyond-from : (len : ℕ) (s : Span) (tick : ℕ) → tick ≤ beyond len s tick
+beyond-from len s tick = beyond-cases len s tick (λ h e later. omega arith) (λ h e. omega arith)
+
+pub back-from : (len : ℕ) (spans : List Span) (tick : ℕ) → tick ≤ swept-back len spans tick
+back-from len [] tick = omega arith
+back-from len (s ∷ spans) tick = let rest = back-from len spans tick in let here = beyond-from len s (swept-back len spans tick) in omega arith
+
+back-over : (len : ℕ) (spans : List Span) (tick x : ℕ) → tick ≤ x → x < swept-back len spans tick → Free len spans x → ⊥
+back-over len [] tick x a b f = omega arith
+back-over len (s ∷ spans) tick x a b f =
+    by-test
+    (leb (swept-back len spans tick) x)
+    (λ t. beyond-over len s spans (swept-back len spans tick) x (leb-true (swept-back len spans tick) x t) b f)
+    (λ t. back-over len spans tick x a (leb-false (swept-back len spans tick) x t) (free-rest len s spans x f))
 
 -- The pass over the columns, entry by entry.
 
@@ -133,6 +159,44 @@ swept-more rs starts finishes n k from len tick i lasting h sw =
     })
     (λ e. record { within = h; is-swept = rw (append, e) was; below = rw e low })
 
+-- the pass from the last entry to the first: the first i entries are still to come
+pub record SweptBack (rs starts finishes : List ℕ) (n k from len tick i : ℕ) : Type 0 where
+  pub within : i ≤ n
+  pub to-come : swept-back len (spans-of k rs starts finishes n) from ≡ swept-back len (spans-of k rs starts finishes i) tick
+  pub below : tick < tick-bound
+
+pub back-none : (rs starts finishes : List ℕ) (n k from len : ℕ) → from < tick-bound → SweptBack rs starts finishes n k from len from n
+back-none rs starts finishes n k from len h = record { within = omega arith; to-come = refl; below = h }
+
+pub back-more :
+    (rs starts finishes : List ℕ) (n k from len tick i : ℕ) →
+    Lasting starts finishes n → i < n → SweptBack rs starts finishes n k from len tick (suc i) →
+    SweptBack rs starts finishes n k from len (at-entry rs starts finishes k len tick i) i
+back-more rs starts finishes n k from len tick i lasting h sw =
+    let before = spans-of k rs starts finishes i in
+    let it = entry starts finishes i in
+    let append = back-append len before (cons-if (eqb (getD rs i 0) k) it []) tick in
+    let ends = lasting .ends i h in
+    let was = sw .to-come in
+    let low = sw .below in
+    by-test
+    (eqb (getD rs i 0) k)
+    (λ e.
+    record {
+      within = omega arith;
+      to-come = was ∙ append ∙ rw e refl;
+      below = rw e (beyond-cases len it tick (λ m q later. omega arith) (λ m q. omega arith));
+    })
+    (λ e. record { within = omega arith; to-come = was ∙ append ∙ rw e refl; below = rw e low })
+
+pub back-bound :
+    (rs starts finishes : List ℕ) (n k len tick : ℕ) → Lasting starts finishes n → tick < tick-bound → swept-back len (spans-of k rs starts finishes n) tick < tick-bound
+back-bound rs starts finishes n k len from lasting h = go n (back-none rs starts finishes n k from len h)
+  where
+    go : (i : ℕ) {tick : ℕ} → SweptBack rs starts finishes n k from len tick i → swept-back len (spans-of k rs starts finishes n) from < tick-bound
+    go zero sw = rw (sw .to-come) (sw .below)
+    go (suc i) {tick} sw = let w = sw .within in go i (back-more rs starts finishes n k from len tick i lasting (omega arith) sw)
+
 -- no span among the columns ends at or past the bound, so no pass does
 pub swept-bound :
     (rs starts finishes : List ℕ) (n k len tick : ℕ) → Lasting starts finishes n → tick < tick-bound → swept len (spans-of k rs starts finishes n) tick < tick-bound
@@ -158,10 +222,11 @@ pub seeking-none : (from len : ℕ) (spans : List Span) {last : ℕ} → last �
 seeking-none from len spans e h = record { not-before = omega arith; is-last = e; none-free = λ x a b. absurd (omega arith); below = h }
 
 pub seeking-more :
-    (from len : ℕ) (spans : List Span) {tick last next : ℕ} → Seeking from len spans tick last → next ≡ swept len spans last → next < tick-bound →
-    Seeking from len spans last next
-seeking-more from len spans {tick} {last} sk e h =
+    (from len : ℕ) (spans : List Span) {tick last back next : ℕ} → Seeking from len spans tick last → back ≡ swept-back len spans last → next ≡ swept len spans back → next < tick-bound →
+    Seeking from len spans back next
+seeking-more from len spans {tick} {last} {back} sk r e h =
     let moved = swept-from len spans tick in
+    let again = back-from len spans last in
     let start = sk .not-before in
     let is = sk .is-last in
     record {
@@ -170,9 +235,14 @@ seeking-more from len spans {tick} {last} sk e h =
       none-free =
           λ x a b f.
           by-test
+          (leb last x)
+          (λ l. back-over len spans last x (leb-true last x l) (omega arith) f)
+          (λ l.
+          let under = leb-false last x l in
+          by-test
           (leb tick x)
           (λ t. swept-over len spans tick x (leb-true tick x t) (omega arith) f)
-          (λ t. sk .none-free x a (leb-false tick x t) f);
+          (λ t. sk .none-free x a (leb-false tick x t) f));
       below = h;
     }
 

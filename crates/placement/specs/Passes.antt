@@ -13,3 +13,8 @@ beyond len s tick = cond (meets (record { start = tick; finish = tick + len }) s
 abbrev pub swept : (len : ℕ) → List Span → ℕ → ℕ
 swept len [] tick = tick
 swept len (s ∷ spans) tick = swept len spans (beyond len s tick)
+
+-- one pass from the last span to the first
+abbrev pub swept-back : (len : ℕ) → List Span → ℕ → ℕ
+swept-back len [] tick = tick
+swept-back len (s ∷ spans) tick = beyond len s (swept-back len spans tick)

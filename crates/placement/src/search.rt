@@ -6,7 +6,7 @@ ghost use Prim.Native.Nat.{_+_, _^_, _≤_, _<_};
 ghost use lib.Dec.{eqb};
 ghost use Rattle.rules.specs.Placing.{least-free};
 ghost use Rattle.placement.specs.Columns.{spans-of, Searchable};
-ghost use Rattle.placement.specs.Passes.{beyond, swept};
+ghost use Rattle.placement.specs.Passes.{beyond, swept, swept-back};
 
 // Past a span that `len` ticks from `tick` on would meet, if it is of the resource sought.
 fn past(resource: u64, start: u64, finish: u64, key: u64, tick: u64, len: u64) -> u64
@@ -47,7 +47,36 @@ fn sweep<'a>(
     tick
 }
 
-// The least tick, not before `from`, at which `len` ticks meet no span of the resource. Passes go on until one moves nothing.
+// One pass from the last span to the first.
+fn sweep_back<'a>(
+    resources: &'a [u64; SPANS],
+    starts: &'a [u64; SPANS],
+    finishes: &'a [u64; SPANS],
+    count: usize,
+    key: u64,
+    from: u64,
+    len: u64,
+) -> u64
+    requires { ⌜ Searchable (now starts) (now finishes) count from len ⌝ }
+    ensures { λ r. ⌜ r ≡ swept-back len (spans-of key (now (resources .entry)) (now (starts .entry)) (now (finishes .entry)) count) from ⌝ }
+{
+    let mut tick = from;
+    let mut left = count;
+    while 0 < left {
+        left -= 1;
+        tick = past(
+            resources[left],
+            starts[left],
+            finishes[left],
+            key,
+            tick,
+            len,
+        );
+    }
+    tick
+}
+
+// The least tick, not before `from`, at which `len` ticks meet no span of the resource. Passes go on, up and down by turns, until one moves nothing: spans that ascend are passed in the first, spans that descend in the second.
 pub fn least_free<'a>(
     resources: &'a [u64; SPANS],
     starts: &'a [u64; SPANS],
@@ -63,7 +92,7 @@ pub fn least_free<'a>(
     let mut tick = from;
     let mut last = sweep(resources, starts, finishes, count, key, tick, len);
     while tick < last {
-        tick = last;
+        tick = sweep_back(resources, starts, finishes, count, key, last, len);
         last = sweep(resources, starts, finishes, count, key, tick, len);
     }
     tick

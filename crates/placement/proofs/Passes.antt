@@ -124,6 +124,20 @@ back-over len (s ∷ spans) tick x a b f =
     (λ t. beyond-over len s spans (swept-back len spans tick) x (leb-true (swept-back len spans tick) x t) b f)
     (λ t. back-over len spans tick x a (leb-false (swept-back len spans tick) x t) (free-rest len s spans x f))
 
+-- a pass back that moves nothing meets nothing
+back-unmet : (len : ℕ) (spans : List Span) (tick : ℕ) → swept-back len spans tick ≡ tick → any-of (meets (record { start = tick; finish = tick + len })) spans ≡ false
+back-unmet len [] tick e = refl
+back-unmet len (s ∷ spans) tick e =
+    let rest = back-from len spans tick in
+    let here = beyond-from len s (swept-back len spans tick) in
+    let still : swept-back len spans tick ≡ tick = omega arith in
+    let past : beyond len s tick ≡ tick = ap (beyond len s) (sym still) ∙ e in
+    beyond-cases len s tick (λ h q later. absurd (omega arith)) (λ h q. rw h (back-unmet len spans tick still))
+
+back-still : (len : ℕ) (spans : List Span) (tick : ℕ) → swept-back len spans tick ≡ tick → Free len spans tick
+unfolding free
+back-still len spans tick e = free-true len spans tick (ap not (back-unmet len spans tick e))
+
 -- The pass over the columns, entry by entry.
 
 pub record Swept (rs starts finishes : List ℕ) (n k from len tick i : ℕ) : Type 0 where
@@ -221,30 +235,42 @@ pub record Seeking (from len : ℕ) (spans : List Span) (tick last : ℕ) : Type
 pub seeking-none : (from len : ℕ) (spans : List Span) {last : ℕ} → last ≡ swept len spans from → last < tick-bound → Seeking from len spans from last
 seeking-none from len spans e h = record { not-before = omega arith; is-last = e; none-free = λ x a b. absurd (omega arith); below = h }
 
-pub seeking-more :
-    (from len : ℕ) (spans : List Span) {tick last back next : ℕ} → Seeking from len spans tick last → back ≡ swept-back len spans last → next ≡ swept len spans back → next < tick-bound →
-    Seeking from len spans back next
-seeking-more from len spans {tick} {last} {back} sk r e h =
-    let moved = swept-from len spans tick in
-    let again = back-from len spans last in
-    let start = sk .not-before in
-    let is = sk .is-last in
-    record {
-      not-before = omega arith;
-      is-last = e;
-      none-free =
-          λ x a b f.
-          by-test
-          (leb last x)
-          (λ l. back-over len spans last x (leb-true last x l) (omega arith) f)
-          (λ l.
-          let under = leb-false last x l in
-          by-test
-          (leb tick x)
-          (λ t. swept-over len spans tick x (leb-true tick x t) (omega arith) f)
-          (λ t. sk .none-free x a (leb-false tick x t) f));
-      below = h;
-    }
+module _ (from len : ℕ) (spans : List Span) {tick last back : ℕ} (sk : Seeking from len spans tick last) (r : back ≡ swept-back len spans last) where
+  -- no tick before the end of a pass back is free
+  none-before : (x : ℕ) → from ≤ x → x < back → Free len spans x → ⊥
+  none-before x a b f =
+      by-test
+      (leb last x)
+      (λ l. back-over len spans last x (leb-true last x l) (omega arith) f)
+      (λ l.
+      let under = leb-false last x l in
+      let is = sk .is-last in
+      by-test
+      (leb tick x)
+      (λ t. swept-over len spans tick x (leb-true tick x t) (omega arith) f)
+      (λ t. sk .none-free x a (leb-false tick x t) f))
+
+  not-earlier : from ≤ back
+  not-earlier =
+      let moved = swept-from len spans tick in
+      let again = back-from len spans last in
+      let start = sk .not-before in
+      let is = sk .is-last in
+      omega arith
+
+  pub seeking-more : {next : ℕ} → next ≡ swept len spans back → next < tick-bound → Seeking from len spans back next
+  seeking-more e h = record { not-before = not-earlier; is-last = e; none-free = none-before; below = h }
+
+  -- a pass back that moves nothing has found it
+  pub found-back : back ≡ last → back ≡ least-free from len spans
+  found-back e =
+      let still : swept-back len spans back ≡ back = ap (swept-back len spans) e ∙ sym r in
+      least-unique
+      from
+      len
+      spans
+      (record { not-before = not-earlier; is-free = back-still len spans back still; none-earlier = none-before })
+      (least-is-least from len spans)
 
 pub seeking-found : (from len : ℕ) (spans : List Span) {tick last : ℕ} → Seeking from len spans tick last → last ≤ tick → tick ≡ least-free from len spans
 seeking-found from len spans {tick} sk h =

@@ -93,6 +93,9 @@ pub fn least_free<'a>(
     let mut last = sweep(resources, starts, finishes, count, key, tick, len);
     while tick < last {
         tick = sweep_back(resources, starts, finishes, count, key, last, len);
+        if tick == last {
+            return tick;
+        }
         last = sweep(resources, starts, finishes, count, key, tick, len);
     }
     tick

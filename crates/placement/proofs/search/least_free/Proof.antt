@@ -3,7 +3,7 @@ use mathlib.Core.Path.{_≡_, refl, sym}
 use Prim.Native.Nat.{_≤_, _<_, _-_}
 use native.Mathlib.Omega.{arith}
 use Rattle.placement.specs.Columns.{spans-of, tick-bound}
-use Rattle.placement.proofs.Passes.{Seeking, seeking-none, seeking-more, seeking-found, swept-bound, back-from, back-bound}
+use Rattle.placement.proofs.Passes.{Seeking, seeking-none, seeking-more, found-back, seeking-found, swept-bound, back-from, back-bound}
 use Rattle.placement.proofs.search.least_free.Statement.{statement}
 use Rattle.placement.proofs.search.least_free.Tie as tie
 
@@ -37,31 +37,36 @@ back-below c =
     let bound = back-bound (a .resources .now) (a .starts .now) (a .finishes .now) (a .count) (a .key) (a .len) _ (start .pre .spans) (c .before .before .loop .inv .below) in
     rw (c .sweep-back .ensures) bound
 
+returns : tie.Need-returns Inv-loop μ-loop
+returns c =
+    let a = c .before .before .before .before .before .args in
+    found-back (a .from) (a .len) _ (c .before .before .before .loop .inv) (c .before .sweep-back .ensures) (c .if1 .taken)
+
 sweep-requires-2 : tie.Need-sweep-requires-2 Inv-loop μ-loop
 sweep-requires-2 c κs =
-    let pre = c .before .before .before .before .pre in
-    record { spans = pre .spans; from-below = back-below c; len-above = pre .len-above; len-below = pre .len-below }
+    let pre = c .before .before .before .before .before .pre in
+    record { spans = pre .spans; from-below = back-below (c .before); len-above = pre .len-above; len-below = pre .len-below }
 
 loop-less : tie.Need-loop-less Inv-loop μ-loop
 loop-less c =
-    let at = c .before .before .before in
-    let a = c .before .before .before .before .before .args in
+    let at = c .before .before .before .before in
+    let a = c .before .before .before .before .before .before .args in
     let on = back-from (a .len) (spans-of (a .key) (a .resources .now) (a .starts .now) (a .finishes .now) (a .count)) (at .loop .last) in
-    let below = back-below (c .before) in
-    let test = c .before .before .loop-test .taken in
-    omega (arith, c .before .sweep-back .ensures)
+    let below = back-below (c .before .before) in
+    let test = c .before .before .before .loop-test .taken in
+    omega (arith, c .before .before .sweep-back .ensures)
 
 loop-again : tie.Need-loop-again Inv-loop μ-loop
 loop-again c =
-    let start = c .before .before .before .before .before in
+    let start = c .before .before .before .before .before .before in
     let a = start .args in
-    let inv = c .before .before .before .loop .inv in
-    let bound = swept-bound (a .resources .now) (a .starts .now) (a .finishes .now) (a .count) (a .key) (a .len) _ (start .pre .spans) (back-below (c .before)) in
-    seeking-more (a .from) (a .len) _ inv (c .before .sweep-back .ensures) (c .sweep2 .ensures) (rw (c .sweep2 .ensures) bound)
+    let inv = c .before .before .before .before .loop .inv in
+    let bound = swept-bound (a .resources .now) (a .starts .now) (a .finishes .now) (a .count) (a .key) (a .len) _ (start .pre .spans) (back-below (c .before .before)) in
+    seeking-more (a .from) (a .len) _ inv (c .before .before .sweep-back .ensures) (c .sweep2 .ensures) (rw (c .sweep2 .ensures) bound)
 
-returns : tie.Need-returns Inv-loop μ-loop
-returns c = seeking-found (c .before .before .before .args .from) (c .before .before .before .args .len) _ (c .before .loop .inv) (c .loop-test .left)
+returns-2 : tie.Need-returns-2 Inv-loop μ-loop
+returns-2 c = seeking-found (c .before .before .before .args .from) (c .before .before .before .args .len) _ (c .before .loop .inv) (c .loop-test .left)
 
 pub least-free-spec : {M : Type 1} → statement M
 least-free-spec =
-    tie.close (tie.spec Inv-loop μ-loop sweep-requires loop-holds sweep-back-requires sweep-requires-2 loop-less loop-again returns)
+    tie.close (tie.spec Inv-loop μ-loop sweep-requires loop-holds sweep-back-requires returns sweep-requires-2 loop-less loop-again returns-2)

@@ -9,6 +9,7 @@ use lib.ListN.{take}
 use borrow.Author.Tests.{not-true}
 use Rattle.rules.specs.declared.Row.{Row}
 use Rattle.rules.specs.declared.Job.{Job}
+use Rattle.rules.specs.declared.Setup.{Setup}
 use Rattle.rules.specs.Sequences.{precedes}
 use Rattle.rules.specs.Words.{default-setup, largest-number, horizon}
 use Rattle.rules.specs.Refusals.{outside, miscounted, task-out-of-range, out-of-range, message-out-of-range, ascending, bad-messages}
@@ -16,6 +17,8 @@ use Rattle.rules.specs.Demands.{InRange}
 use Rattle.rules.specs.Bounds.{Between, RowInRange, task, largest-cost}
 use Rattle.rules.specs.Ledger.{on}
 use Rattle.rules.proofs.Sequences.{and-true}
+use Rattle.rules.proofs.DefaultTables.{default-sound}
+use Rattle.placement.specs.Placements.{AskPlace}
 
 -- none of 1 to 4 refuses the job: a test, to be computed
 unfoldable pub passes : Job → Bool
@@ -65,3 +68,12 @@ held-in-range (suc (suc zero)) h rest row is =
     (λ m. subst (RowInRange default-setup) (sym (List·Memᴰ·eq-of-singleton m)) second-in-range)
     (List·Memᴰ·cases-cons is)
 held-in-range (suc (suc (suc n))) h rest row is = absurd (omega arith)
+
+-- what placing asks, of the tables and the two rows as the code made them
+pub asks-place :
+    {s : Setup} {a b : Row} {rest : List Row} {count : ℕ} {j : Job} → s ≡ default-setup → a ≡ on 1 7 1 1 5 40 → b ≡ on 2 6 1 15 20 20 → count ≤ 2 → InRange default-setup j →
+    AskPlace s 0 (a ∷ (b ∷ rest)) count j
+asks-place {rest = rest} {count} p q r few range =
+    rw
+    (p, q, r)
+    (record { sound = default-sound; clock-at-most = omega arith; count-at-most = omega arith; rows-in-range = held-in-range count few rest; in-range = range })

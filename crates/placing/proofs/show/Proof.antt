@@ -1,8 +1,6 @@
 -- `placing::show` meets its contract: the tables are the default ones, and the rows held are in range.
-use native.Mathlib.Omega.{arith}
 use borrow.Author.Needs.{needs}
-use Rattle.rules.proofs.DefaultTables.{default-sound}
-use Rattle.placing.proofs.Ranges.{held-in-range}
+use Rattle.placing.proofs.Ranges.{asks-place}
 use Rattle.placing.proofs.show.Statement.{statement}
 use Rattle.placing.proofs.show.Tie as tie
 
@@ -30,15 +28,7 @@ default-setup-requires c κs = search needs
 place-requires : tie.Need-place-requires
 place-requires c κs =
     let pre = c .before .before .before .before .before .before .pre in
-    rw
-    (c .default-setup .ensures, c .before .held-row2 .ensures, c .before .before .held-row .ensures)
-    (record {
-      sound = default-sound;
-      clock-at-most = omega arith;
-      count-at-most = omega arith;
-      rows-in-range = held-in-range _ (pre .0) _;
-      in-range = pre .1;
-    })
+    asks-place (c .default-setup .ensures) (c .before .before .held-row .ensures) (c .before .held-row2 .ensures) (pre .0) (pre .1)
 
 print-placement-requires : tie.Need-print-placement-requires
 print-placement-requires c κs = search needs

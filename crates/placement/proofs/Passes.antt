@@ -2,12 +2,13 @@
 use mathlib.Core.Path.{_≡_, refl, sym, ap, _∙_}
 use mathlib.Core.Bool.{Bool, true, false, cond, not}
 use mathlib.Core.Logic.{⊎-elim}
-use mathlib.Core.List.{List, [], _∷_, _++_, List·Memᴰ, List·Memᴰ·head, List·Memᴰ·tail, List·Memᴰ·append-cases, List·Memᴰ·eq-of-singleton, List·Memᴰ·not-nil}
-use Prim.Native.Nat.{ℕ, zero, suc, pred, _+_, _≤_, _<_, max, min}
+use mathlib.Core.List.{List, [], _∷_, _++_, append-nil, List·Memᴰ, List·Memᴰ·head, List·Memᴰ·tail, List·Memᴰ·append-cases, List·Memᴰ·eq-of-singleton, List·Memᴰ·not-nil}
+use Prim.Native.Nat.{ℕ, zero, suc, pred, _+_, _-_, _≤_, _<_, max, min}
+use native.Mathlib.Nat.{add-zero, add-suc}
 use native.Mathlib.Omega.{arith}
 use lib.Dec.{eqb, leb}
 use lib.ListN.{getD}
-use borrow.Author.Tests.{ltb-true, lt-ltb, le-ltb, leb-true, leb-false}
+use borrow.Author.Tests.{ltb-true, lt-ltb, le-ltb, leb-true, leb-false, eq-eqb, ne-eqb}
 use Rattle.rules.specs.Sequences.{any-of, cons-if}
 use Rattle.rules.specs.Words.{Span, Within, meets}
 use Rattle.rules.specs.Placing.{free, least-free}
@@ -15,7 +16,7 @@ use Rattle.rules.specs.Laws.{Free, IsLeast}
 use Rattle.rules.proofs.Sequences.{by-test}
 use Rattle.rules.proofs.LeastTick.{free-true, meets-shares, least-is-least, least-unique, least-at-most}
 use Rattle.placement.specs.Columns.{entry, spans-of, tick-bound, Lasting}
-use Rattle.placement.specs.Passes.{beyond, swept, swept-back}
+use Rattle.placement.specs.Passes.{beyond, swept, swept-back, NextOf, AfterLastOf}
 
 -- One span.
 
@@ -210,6 +211,70 @@ back-bound rs starts finishes n k len from lasting h = go n (back-none rs starts
     go : (i : ℕ) {tick : ℕ} → SweptBack rs starts finishes n k from len tick i → swept-back len (spans-of k rs starts finishes n) from < tick-bound
     go zero sw = rw (sw .to-come) (sw .below)
     go (suc i) {tick} sw = let w = sw .within in go i (back-more rs starts finishes n k from len tick i lasting (omega arith) sw)
+
+-- entries of other resources are passed over
+skip-spans :
+    (k : ℕ) (rs starts finishes : List ℕ) (i d : ℕ) → ((j : ℕ) → i ≤ j → j < i + d → getD rs j 0 ≡ k → ⊥) → spans-of k rs starts finishes (i + d) ≡ spans-of k rs starts finishes i
+skip-spans k rs starts finishes i zero none = ap (spans-of k rs starts finishes) (add-zero i)
+skip-spans k rs starts finishes i (suc d) none =
+    ap (spans-of k rs starts finishes) (add-suc i d)
+    ∙ ap (λ t. spans-of k rs starts finishes (i + d) ++ cons-if t (entry starts finishes (i + d)) []) (ne-eqb (getD rs (i + d) 0) k (none (i + d) (omega arith) (omega arith)))
+    ∙ append-nil (spans-of k rs starts finishes (i + d))
+    ∙ skip-spans k rs starts finishes i d (λ j a b. none j a (omega arith))
+
+skipped : (k : ℕ) (rs starts finishes : List ℕ) (i r : ℕ) → i ≤ r → ((j : ℕ) → i ≤ j → j < r → getD rs j 0 ≡ k → ⊥) → spans-of k rs starts finishes r ≡ spans-of k rs starts finishes i
+skipped k rs starts finishes i r h none =
+    let e : r ≡ i + (r - i) = omega arith in
+    ap (spans-of k rs starts finishes) e ∙ skip-spans k rs starts finishes i (r - i) (λ j a b. none j a (omega arith))
+
+module _ (rs starts finishes : List ℕ) (n k from len tick i r : ℕ) where
+  pub swept-skip : Swept rs starts finishes n k from len tick i → NextOf k rs n i r → Swept rs starts finishes n k from len tick r
+  swept-skip sw next =
+      record {
+        within = next .within;
+        is-swept = sw .is-swept ∙ ap (λ l. swept len l from) (sym (skipped k rs starts finishes i r (next .on) (next .none)));
+        below = sw .below;
+      }
+
+  pub back-skip : SweptBack rs starts finishes n k from len tick i → AfterLastOf k rs i r → SweptBack rs starts finishes n k from len tick r
+  back-skip sw last =
+      record {
+        within = let a = sw .within in let b = last .within in omega arith;
+        to-come = sw .to-come ∙ ap (λ l. swept-back len l tick) (skipped k rs starts finishes r i (last .within) (last .none));
+        below = sw .below;
+      }
+
+-- an entry of the resource
+pub at-own : (rs starts finishes : List ℕ) (k len tick i : ℕ) → getD rs i 0 ≡ k → at-entry rs starts finishes k len tick i ≡ beyond len (entry starts finishes i) tick
+at-own rs starts finishes k len tick i e = rw (eq-eqb (getD rs i 0) k e) refl
+
+-- looking for the next entry, and for the one before
+
+pub record Looked (key : ℕ) (rs : List ℕ) (count from i : ℕ) : Type 0 where
+  pub on : from ≤ i
+  pub within : i ≤ count
+  pub none : (j : ℕ) → from ≤ j → j < i → getD rs j 0 ≡ key → ⊥
+
+pub looked-more : (key : ℕ) (rs : List ℕ) (count from i : ℕ) → i < count → Looked key rs count from i → (getD rs i 0 ≡ key → ⊥) → Looked key rs count from (i + 1)
+looked-more key rs count from i h w e =
+    let on = w .on in
+    record {
+      on = omega arith;
+      within = omega arith;
+      none = λ j a b q. by-test (leb i j) (λ t. let l = leb-true i j t in let same : j ≡ i = omega arith in e (ap (λ n. getD rs n 0) (sym same) ∙ q)) (λ t. w .none j a (leb-false i j t) q);
+    }
+
+pub record LookedBack (key : ℕ) (rs : List ℕ) (below i : ℕ) : Type 0 where
+  pub within : i ≤ below
+  pub none : (j : ℕ) → i ≤ j → j < below → getD rs j 0 ≡ key → ⊥
+
+pub back-looked-more : (key : ℕ) (rs : List ℕ) (below i : ℕ) → 0 < i → LookedBack key rs below i → (getD rs (i - 1) 0 ≡ key → ⊥) → LookedBack key rs below (i - 1)
+back-looked-more key rs below i h w e =
+    let within = w .within in
+    record {
+      within = omega arith;
+      none = λ j a b q. by-test (leb i j) (λ t. w .none j (leb-true i j t) b q) (λ t. let l = leb-false i j t in let same : j ≡ i - 1 = omega arith in e (ap (λ n. getD rs n 0) (sym same) ∙ q));
+    }
 
 -- no span among the columns ends at or past the bound, so no pass does
 pub swept-bound :

@@ -1,21 +1,16 @@
 // The search for the least free tick, over columns of spans.
 use crate::SPANS;
 ghost use mathlib.Core.Path.{_≡_};
-ghost use mathlib.Core.Bool.{cond};
 ghost use Prim.Native.Nat.{_+_, _^_, _≤_, _<_};
-ghost use lib.Dec.{eqb};
 ghost use Rattle.rules.specs.Placing.{least-free};
-ghost use Rattle.placement.specs.Columns.{spans-of, Searchable};
-ghost use Rattle.placement.specs.Passes.{beyond, swept, swept-back};
+ghost use Rattle.placement.specs.Columns.{room, spans-of, Searchable};
+ghost use Rattle.placement.specs.Passes.{beyond, swept, swept-back, AskEntry, NextOf, AfterLastOf};
 
-// Past a span that `len` ticks from `tick` on would meet, if it is of the resource sought.
-fn past(resource: u64, start: u64, finish: u64, key: u64, tick: u64, len: u64) -> u64
+// Past a span that `len` ticks from `tick` on would meet.
+fn past(start: u64, finish: u64, tick: u64, len: u64) -> u64
     requires { ⌜ (tick + len < 2 ^ 64) × (1 ≤ len) × (start < finish) ⌝ }
-    ensures { λ r. ⌜ r ≡ cond (eqb resource key) (beyond len (record { start = start; finish = finish }) tick) tick ⌝ }
+    ensures { λ r. ⌜ r ≡ beyond len (record { start = start; finish = finish }) tick ⌝ }
 {
-    if resource != key {
-        return tick;
-    }
     if tick + len <= start {
         return tick;
     }
@@ -25,7 +20,37 @@ fn past(resource: u64, start: u64, finish: u64, key: u64, tick: u64, len: u64) -
     finish
 }
 
-// One pass over the spans: the tick moves past each that it meets.
+// The first entry of the resource from a place on, or the count.
+fn next_of(resources: &[u64; SPANS], count: usize, key: u64, from: usize) -> usize
+    requires { ⌜ AskEntry count from ⌝ }
+    ensures { λ r. ⌜ NextOf key (now (resources .entry)) count from r ⌝ }
+{
+    let mut i = from;
+    while i < count {
+        if resources[i] == key {
+            return i;
+        }
+        i += 1;
+    }
+    i
+}
+
+// The place after the last entry of the resource below a place, or 0.
+fn after_last_of(resources: &[u64; SPANS], key: u64, below: usize) -> usize
+    requires { ⌜ below ≤ room ⌝ }
+    ensures { λ r. ⌜ AfterLastOf key (now (resources .entry)) below r ⌝ }
+{
+    let mut left = below;
+    while 0 < left {
+        if resources[left - 1] == key {
+            return left;
+        }
+        left -= 1;
+    }
+    left
+}
+
+// One pass over the spans of the resource: the tick moves past each that it meets.
 fn sweep<'a>(
     resources: &'a [u64; SPANS],
     starts: &'a [u64; SPANS],
@@ -39,10 +64,10 @@ fn sweep<'a>(
     ensures { λ r. ⌜ r ≡ swept len (spans-of key (now (resources .entry)) (now (starts .entry)) (now (finishes .entry)) count) from ⌝ }
 {
     let mut tick = from;
-    let mut i: usize = 0;
+    let mut i = next_of(resources, count, key, 0);
     while i < count {
-        tick = past(resources[i], starts[i], finishes[i], key, tick, len);
-        i += 1;
+        tick = past(starts[i], finishes[i], tick, len);
+        i = next_of(resources, count, key, i + 1);
     }
     tick
 }
@@ -61,17 +86,11 @@ fn sweep_back<'a>(
     ensures { λ r. ⌜ r ≡ swept-back len (spans-of key (now (resources .entry)) (now (starts .entry)) (now (finishes .entry)) count) from ⌝ }
 {
     let mut tick = from;
-    let mut left = count;
+    let mut left = after_last_of(resources, key, count);
     while 0 < left {
         left -= 1;
-        tick = past(
-            resources[left],
-            starts[left],
-            finishes[left],
-            key,
-            tick,
-            len,
-        );
+        tick = past(starts[left], finishes[left], tick, len);
+        left = after_last_of(resources, key, left);
     }
     tick
 }

@@ -1,37 +1,24 @@
 -- `placement::search::past` meets its contract: each way out is one case of `beyond`.
-use mathlib.Core.Path.{_≡_, refl, sym}
-use mathlib.Core.Bool.{cond}
+use mathlib.Core.Path.{_≡_, sym}
 use borrow.Author.Needs.{needs}
-use borrow.Author.Tests.{eq-eqb, ne-eqb}
 use Rattle.placement.proofs.Passes.{beyond-later, beyond-earlier, beyond-met}
 use Rattle.placement.proofs.search.past.Statement.{statement}
 use Rattle.placement.proofs.search.past.Tie as tie
 
-returns : tie.Need-returns
-returns c = let a = c .before .args in rw (ne-eqb (a .resource) (a .key) (c .if1 .taken)) refl
+add-if1 : tie.Need-add-if1
+add-if1 c = search needs
 
-add-if2 : tie.Need-add-if2
-add-if2 c = search needs
+returns : tie.Need-returns
+returns c = let a = c .before .args in sym (beyond-later (a .len) (a .start) (a .finish) (a .tick) (c .if1 .taken))
 
 returns-2 : tie.Need-returns-2
-returns-2 c =
-    let a = c .before .before .args in
-    rw (eq-eqb (a .resource) (a .key) (c .before .if1 .left), beyond-later (a .len) (a .start) (a .finish) (a .tick) (c .if2 .taken)) refl
+returns-2 c = let a = c .before .before .args in sym (beyond-earlier (a .len) (a .start) (a .finish) (a .tick) (c .if2 .taken))
 
 returns-3 : tie.Need-returns-3
 returns-3 c =
-    let a = c .before .before .before .args in
-    rw (eq-eqb (a .resource) (a .key) (c .before .before .if1 .left), beyond-earlier (a .len) (a .start) (a .finish) (a .tick) (c .if3 .taken)) refl
-
-returns-4 : tie.Need-returns-4
-returns-4 c =
-    let a = c .before .before .before .args in
-    let pre = c .before .before .before .pre in
-    rw (
-      eq-eqb (a .resource) (a .key) (c .before .before .if1 .left),
-      beyond-met (a .len) (a .start) (a .finish) (a .tick) (pre .1) (pre .2) (c .before .if2 .left) (c .if3 .left),
-    )
-    refl
+    let a = c .before .before .args in
+    let pre = c .before .before .pre in
+    sym (beyond-met (a .len) (a .start) (a .finish) (a .tick) (pre .1) (pre .2) (c .before .if1 .left) (c .if2 .left))
 
 pub past-spec : {M : Type 1} → statement M
-past-spec = tie.close (tie.spec returns add-if2 returns-2 returns-3 returns-4)
+past-spec = tie.close (tie.spec add-if1 returns returns-2 returns-3)

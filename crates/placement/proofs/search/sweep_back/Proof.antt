@@ -1,32 +1,37 @@
--- `placement::search::sweep_back` meets its contract: the first `left` entries are still to come.
+-- `placement::search::sweep_back` meets its contract: the first `left` entries are still to come, and the last of them is of the resource.
 use borrow.Author.Needs.{needs}
 use native.Mathlib.Omega.{arith}
 use mathlib.Core.Path.{_≡_, refl, sym, ap, _∙_, subst}
-use Prim.Native.Nat.{ℕ, suc, _-_, _≤_, _<_}
-use Rattle.placement.specs.Columns.{spans-of, tick-bound, room}
+use Prim.Native.Nat.{ℕ, suc, _+_, _-_, _≤_, _<_}
+use lib.ListN.{getD}
+use Rattle.placement.specs.Columns.{spans-of, room}
 use Rattle.placement.specs.Passes.{swept-back}
 use Rattle.placement.proofs.Sums.{below-room, entry-fits}
-use Rattle.placement.proofs.Passes.{SweptBack, back-none, back-more}
+use Rattle.placement.proofs.Passes.{SweptBack, back-none, back-more, back-skip, at-own}
 use Rattle.placement.proofs.search.sweep_back.Statement.{statement}
 use Rattle.placement.proofs.search.sweep_back.Tie as tie
 
 abbrev Inv-loop : tie.InvT-loop
-Inv-loop resources starts finishes count key from len tick₀ left₀ tick left = SweptBack resources starts finishes count key from len tick left
+Inv-loop resources starts finishes count key from len tick₀ left₀ tick left = SweptBack resources starts finishes count key from len tick left × (0 < left → getD resources (left - 1) 0 ≡ key)
 
 abbrev μ-loop : tie.MeasureT-loop
 μ-loop resources starts finishes count key from len tick₀ left₀ tick left = left
 
-loop-holds : tie.Need-loop-holds Inv-loop μ-loop
-loop-holds c =
-    let a = c .args in
-    back-none (a .resources .now) (a .starts .now) (a .finishes .now) (a .count) (a .key) (a .from) (a .len) (c .pre .from-below)
-
 -- the entry that is looked at
-entry-there : (c : tie.In-loop Inv-loop μ-loop) → c .before .loop .left - 1 < c .before .before .args .count
-entry-there c = let within = c .before .loop .inv .within in omega (arith, c .loop-test .taken)
+entry-there : (c : tie.In-loop Inv-loop μ-loop) → c .before .loop .left - 1 < c .before .before .before .args .count
+entry-there c = let within = c .before .loop .inv .0 .within in omega (arith, c .loop-test .taken)
 
 entry-below : (c : tie.In-loop Inv-loop μ-loop) → c .before .loop .left - 1 < room
-entry-below c = below-room _ _ (entry-there c) (c .before .before .pre .spans .within)
+entry-below c = below-room _ _ (entry-there c) (c .before .before .before .pre .spans .within)
+
+after-last-of-requires : tie.Need-after-last-of-requires Inv-loop μ-loop
+after-last-of-requires c κs = c .pre .spans .within
+
+loop-holds : tie.Need-loop-holds Inv-loop μ-loop
+loop-holds c =
+    let a = c .before .args in
+    let last = c .after-last-of .ensures in
+    (back-skip (a .resources .now) (a .starts .now) (a .finishes .now) (a .count) (a .key) (a .from) (a .len) (a .from) (a .count) (c .after-last-of .result) (back-none (a .resources .now) (a .starts .now) (a .finishes .now) (a .count) (a .key) (a .from) (a .len) (c .before .pre .from-below)) last, last .here)
 
 sub-left : tie.Need-sub-left Inv-loop μ-loop
 sub-left c = c .loop-test .taken
@@ -43,51 +48,46 @@ mul-past-2 c = entry-fits _ (entry-below (c .before))
 element-copy-out-past-2 : tie.Need-element-copy-out-past-2 Inv-loop μ-loop
 element-copy-out-past-2 c = entry-below (c .before)
 
-mul-past-3 : tie.Need-mul-past-3 Inv-loop μ-loop
-mul-past-3 c = entry-fits _ (entry-below (c .before .before))
-
-element-copy-out-past-3 : tie.Need-element-copy-out-past-3 Inv-loop μ-loop
-element-copy-out-past-3 c = entry-below (c .before .before)
-
 past-requires : tie.Need-past-requires Inv-loop μ-loop
 past-requires c κs =
-    let at = c .before .before .before .before in
-    let pre = at .before .pre in
-    let below = at .loop .inv .below in
-    (omega (arith, pre .len-below), pre .len-above, pre .spans .lasts (at .loop .left - 1) (entry-there (c .before .before .before)))
+    let at = c .before .before .before in
+    let pre = c .before .before .before .before .before .pre in
+    let below = at .loop .inv .0 .below in
+    (omega (arith, pre .len-below), pre .len-above, pre .spans .lasts (at .loop .left - 1) (entry-there (c .before .before)))
+
+after-last-of-requires-2 : tie.Need-after-last-of-requires-2 Inv-loop μ-loop
+after-last-of-requires-2 c κs = let below = entry-below (c .before .before .before) in omega arith
 
 loop-less : tie.Need-loop-less Inv-loop μ-loop
-loop-less c = omega (arith, c .before .before .before .before .loop-test .taken)
+loop-less c = let within = c .after-last-of2 .ensures .within in omega (arith, c .before .before .before .before .loop-test .taken)
 
 loop-again : tie.Need-loop-again Inv-loop μ-loop
 loop-again c =
     let at = c .before .before .before .before .before in
-    let a = at .before .args in
-    let one : at .loop .left ≡ suc (at .loop .left - 1) = omega (arith, c .before .before .before .before .loop-test .taken) in
-    let whole = SweptBack (a .resources .now) (a .starts .now) (a .finishes .now) (a .count) (a .key) (a .from) (a .len) in
-    subst
-    (λ (t : ℕ). whole t (at .loop .left - 1))
-    (sym (c .past .ensures))
-    (back-more
-    (a .resources .now)
-    (a .starts .now)
-    (a .finishes .now)
-    (a .count)
-    (a .key)
-    (a .from)
-    (a .len)
+    let a = c .before .before .before .before .before .before .before .args in
+    let test = c .before .before .before .before .loop-test .taken in
+    let own = at .loop .inv .1 test in
+    let last = c .after-last-of2 .ensures in
+    let one : at .loop .left ≡ suc (at .loop .left - 1) = omega (arith, test) in
+    let moved =
+    back-more
+    (a .resources .now) (a .starts .now) (a .finishes .now) (a .count) (a .key) (a .from) (a .len)
     (at .loop .tick)
     (at .loop .left - 1)
-    (at .before .pre .spans)
+    (c .before .before .before .before .before .before .before .pre .spans)
     (entry-there (c .before .before .before .before))
-    (subst (λ (n : ℕ). whole (at .loop .tick) n) one (at .loop .inv)))
+    (subst (λ (n : ℕ). SweptBack (a .resources .now) (a .starts .now) (a .finishes .now) (a .count) (a .key) (a .from) (a .len) (at .loop .tick) n) one (at .loop .inv .0))
+    in
+    let tick = sym (c .before .past .ensures ∙ sym (at-own (a .resources .now) (a .starts .now) (a .finishes .now) (a .key) (a .len) (at .loop .tick) (at .loop .left - 1) own)) in
+    let here : SweptBack (a .resources .now) (a .starts .now) (a .finishes .now) (a .count) (a .key) (a .from) (a .len) (c .before .past .result) (at .loop .left - 1) = subst (λ (t : ℕ). SweptBack (a .resources .now) (a .starts .now) (a .finishes .now) (a .count) (a .key) (a .from) (a .len) t (at .loop .left - 1)) tick moved in
+    (back-skip (a .resources .now) (a .starts .now) (a .finishes .now) (a .count) (a .key) (a .from) (a .len) (c .before .past .result) (at .loop .left - 1) (c .after-last-of2 .result) here last, last .here)
 
 returns : tie.Need-returns Inv-loop μ-loop
 returns c =
     let at = c .before in
-    let a = at .before .args in
+    let a = c .before .before .before .args in
     let none : at .loop .left ≡ 0 = omega (arith, c .loop-test .left) in
-    sym (at .loop .inv .to-come ∙ ap (λ (n : ℕ). swept-back (a .len) (spans-of (a .key) (a .resources .now) (a .starts .now) (a .finishes .now) n) (at .loop .tick)) none)
+    sym (at .loop .inv .0 .to-come ∙ ap (λ (n : ℕ). swept-back (a .len) (spans-of (a .key) (a .resources .now) (a .starts .now) (a .finishes .now) n) (at .loop .tick)) none)
 
 pub sweep-back-spec : {M : Type 1} → statement M
 sweep-back-spec =
@@ -95,15 +95,15 @@ sweep-back-spec =
     (tie.spec
     Inv-loop
     μ-loop
+    after-last-of-requires
     loop-holds
     sub-left
     mul-past
     element-copy-out-past
     mul-past-2
     element-copy-out-past-2
-    mul-past-3
-    element-copy-out-past-3
     past-requires
+    after-last-of-requires-2
     loop-less
     loop-again
     returns)

@@ -12,7 +12,7 @@ use Rattle.rules.specs.Sequences.{all-of}
 use Rattle.rules.proofs.Sequences.{by-test, clash, and-true, and-both, or-left, or-right}
 use Rattle.jobtext.specs.Figures.{zero-digit, is-digit, value-after, value, digits-within, decimal}
 use Rattle.jobtext.specs.Lines.{largest-figure, well-written}
-use Rattle.jobtext.specs.Laws.{Decimal-says, Decimal-only}
+use Rattle.jobtext.specs.Laws.{Decimal-steps, Decimal-says, Decimal-only}
 use Rattle.jobtext.proofs.Numbers.{by-less}
 use Rattle.jobtext.proofs.Scanned.{digit-yes}
 
@@ -54,6 +54,10 @@ pub decimal-step : (n : ℕ) → 10 ≤ n → decimal n ≡ decimal (n / 10) ++ 
 unfolding decimal
 decimal-step n h =
     within-step n n h ∙ ap (λ l. l ++ ((48 + n % 10) ∷ [])) (within-same n (suc (n / 10)) (n / 10) (omega arith) (omega arith))
+
+pub decimal-steps : Decimal-steps
+decimal-steps n =
+    by-less n 10 (λ h. rw (lt-ltb n 10 h) (decimal-small n h)) (λ h. rw (le-ltb n 10 h) (decimal-step n h))
 
 -- what holds of one digit, and with a tenth of the number holds of the number, holds of every number
 pub by-digits : (P : ℕ → Type 0) → ((n : ℕ) → n < 10 → P n) → ((n : ℕ) → 10 ≤ n → P (n / 10) → P n) → (n : ℕ) → P n

@@ -1,15 +1,16 @@
 -- Laws of the form: that the definitions of "Job text" say what is meant.
 use mathlib.Core.Path.{_≡_}
-use mathlib.Core.Bool.{true}
+use mathlib.Core.Bool.{true, cond}
 use mathlib.Core.List.{List, [], _∷_, _++_, map}
-use Prim.Native.Nat.{ℕ, _+_, _*_, _≤_, _<_}
+use Prim.Native.Nat.{ℕ, _+_, _*_, _/_, _%_, _≤_, _<_}
+use lib.Dec.{ltb}
 use lib.ListN.{length, getD, take}
 use Rattle.rules.specs.declared.Task.{Task}
 use Rattle.rules.specs.declared.Message.{Message}
 use Rattle.rules.specs.declared.Job.{Job}
 use Rattle.rules.specs.Sequences.{all-of}
 use Rattle.rules.specs.Words.{most-tasks, most-messages, most-machines}
-use Rattle.jobtext.specs.Figures.{line-feed, is-digit, value, decimal}
+use Rattle.jobtext.specs.Figures.{zero-digit, line-feed, is-digit, value, decimal}
 use Rattle.jobtext.specs.Lines.{parsed, refused, Due, largest-figure, well-written, line, lines, written-lines}
 use Rattle.jobtext.specs.JobText.{head-lines, task-lines, count-lines, message-lines, times, blank-task, blank-message, filled, job-text}
 
@@ -38,7 +39,11 @@ job-figures j =
 abbrev pub written-job : Job → List ℕ
 written-job j = written-lines (job-lines (j .taskcount) (j .messagecount)) (job-figures j)
 
--- Decimal figures: what a number's digits say is the number, and they are the only well-written digits that do.
+-- Decimal figures: one digit, or the digits of a tenth and then the last one, however large the number.
+abbrev pub Decimal-steps : Type 0
+Decimal-steps = (n : ℕ) → decimal n ≡ cond (ltb n 10) ((zero-digit + n) ∷ []) (decimal (n / 10) ++ ((zero-digit + n % 10) ∷ []))
+
+-- What a number's digits say is the number, and they are the only well-written digits that do.
 abbrev pub Decimal-says : Type 0
 Decimal-says = (n : ℕ) → value (decimal n) ≡ n
 

@@ -38,6 +38,7 @@ use Rattle.script.specs.Acts.{Act, ended, call, unread, as-act, act, sub
 use Rattle.script.specs.Replies.{refused-key, reply, stop-line}
 use Rattle.script.specs.Listing.{listing}
 use Rattle.script.specs.Program.{Script, script-from, script, replies, printed, program, input-limit}
+use Rattle.script.specs.Laws.{Turns-enough}
 use Rattle.script.specs.Answers.{turn-act, stop-of, PutsAtMost, most-for, most-reply, most-answer, output-size, Runs}
 use Rattle.script.proofs.Fields.{Within, within-none, within-then, within-next}
 use Rattle.script.proofs.Acted.{at-end, at-submit, at-withdraw, at-clock, no-act, act-fits}
@@ -188,6 +189,9 @@ enough-turns text at (suc a) (suc b) h k = go (act text at) refl (λ next p q. e
 stop-none : stop-line none ≡ []
 unfolding stop-line
 stop-none = refl
+
+pub turns-enough : Turns-enough
+turns-enough text turns h = enough-turns text 0 turns (length text) (omega arith) (omega arith)
 
 -- What is printed from a state on: a call's reply and what follows it, or the end.
 module _ (s : Setup) (st : State) where

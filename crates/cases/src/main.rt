@@ -14,7 +14,7 @@ ghost use Rattle.cases.specs.Cases.{PartIs, CaseIs};
 // Room for the container.
 const SIZE: usize = 524_288;
 
-// A part of the container: its first byte and the place after its last, or none as the form has it.
+// A part of the container: its first byte and the place after its last; or the container is not as its form says.
 enum Part {
     Bytes(usize, usize),
     Ill,

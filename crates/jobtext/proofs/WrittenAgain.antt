@@ -16,7 +16,8 @@ use Rattle.jobtext.specs.Figures.{line-feed, is-digit, value, decimal}
 use Rattle.jobtext.specs.Lines.{Parsed, parsed, refused, followed, Due, begins, leading-digits, well-written, figure, line, lines, written-line, written-lines}
 use Rattle.jobtext.specs.JobText.{head-lines, task-lines, count-lines, message-lines, times, groups, task-said, message-said, blank-task, blank-message, filled, job-said, job-text}
 use Rattle.jobtext.specs.Answers.{is-number}
-use Rattle.jobtext.specs.Laws.{job-lines, joined, task-figures, message-figures, job-figures, written-job, Written-again}
+use Rattle.jobtext.specs.Put.{joined}
+use Rattle.jobtext.specs.Laws.{job-lines, task-figures, message-figures, job-figures, written-job, Written-again}
 use Rattle.jobtext.proofs.Begun.{begun}
 use Rattle.jobtext.proofs.Decimals.{decimal-only}
 use Rattle.jobtext.proofs.Grouped.{groups-length}

@@ -57,6 +57,7 @@ abbrev pub head-said : Parsed (List ℕ) → Head
 head-said (parsed figures next) = Counted (getD figures 0 0) (getD figures 1 0) (getD figures 2 0) next
 head-said (refused number place) = Unread number place
 
+-- a refusal of the head's lines; a line that was read is none, and is never handed here
 abbrev pub unread : Line → Head
 unread (Figure n next) = Unread 0 next
 unread (Refused number place) = Unread number place

@@ -38,6 +38,6 @@ digits-within (suc most) n =
       | false ↦ digits-within most (n / 10) ++ ((zero-digit + n % 10) ∷ [])
     ]
 
--- a number in decimal: the digits of a tenth of it, then the last one. No number has more digits than its successor says.
+-- a number in decimal: the digits of a tenth of it, then the last one. The number n has at most n + 1 digits.
 unfoldable pub decimal : ℕ → List ℕ
 decimal n = digits-within (suc n) n

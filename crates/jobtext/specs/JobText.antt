@@ -1,5 +1,5 @@
 -- Document 01, "Job text": the lines of a job in order, and the job that they say.
-use mathlib.Core.List.{List, [], _∷_, _++_, map}
+use mathlib.Core.List.{List, [], _∷_, _++_}
 use Prim.Native.Nat.{ℕ, zero, suc, _-_}
 use lib.ListN.{length, getD, take, drop, replicate}
 use Rattle.rules.specs.declared.Task.{Task}
@@ -7,7 +7,7 @@ use Rattle.rules.specs.declared.Message.{Message}
 use Rattle.rules.specs.declared.Job.{Job}
 use Rattle.rules.specs.Words.{most-tasks, most-messages, most-machines}
 use Rattle.jobtext.specs.Figures.{bytes}
-use Rattle.jobtext.specs.Lines.{Parsed, parsed, refused, followed, Due, any-figure, line, lines}
+use Rattle.jobtext.specs.Lines.{Parsed, parsed, followed, Due, any-figure, lines}
 
 -- The keys, each with its equals sign.
 

@@ -11,6 +11,7 @@ use Rattle.rules.specs.declared.Job.{Job}
 use Rattle.rules.specs.Sequences.{all-of}
 use Rattle.rules.specs.Words.{most-tasks, most-messages, most-machines}
 use Rattle.jobtext.specs.Figures.{zero-digit, line-feed, is-digit, value, decimal}
+use Rattle.jobtext.specs.Put.{joined}
 use Rattle.jobtext.specs.Lines.{parsed, refused, Due, largest-figure, well-written, line, lines, written-lines}
 use Rattle.jobtext.specs.JobText.{head-lines, task-lines, count-lines, message-lines, times, blank-task, blank-message, filled, job-text}
 
@@ -19,10 +20,6 @@ use Rattle.jobtext.specs.JobText.{head-lines, task-lines, count-lines, m
 -- the lines of a job with so many tasks and messages
 abbrev pub job-lines : (tasks messages : ℕ) → List Due
 job-lines tasks messages = head-lines ++ (times tasks task-lines ++ (count-lines ++ times messages message-lines))
-
-abbrev pub joined : List (List ℕ) → List ℕ
-joined [] = []
-joined (xs ∷ rest) = xs ++ joined rest
 
 abbrev pub task-figures : Task → List ℕ
 task-figures t = t .deadline ∷ t .dispatch ∷ t .runs

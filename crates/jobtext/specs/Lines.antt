@@ -5,7 +5,8 @@ use Prim.Native.Nat.{ℕ, zero, suc, _+_}
 use lib.Dec.{ltb, leb, eqb}
 use lib.ListN.{length, getD, drop}
 use Rattle.rules.specs.Refusals.{outside}
-use Rattle.jobtext.specs.Figures.{zero-digit, line-feed, is-digit, value, decimal}
+use Rattle.jobtext.specs.Figures.{zero-digit, line-feed, is-digit, value}
+use Rattle.jobtext.specs.Put.{field}
 
 -- What reading finds: a value and the place after it, or a refusal's number and place.
 pub data Parsed (A : Type 0) : Type 0 where
@@ -27,7 +28,7 @@ pub record Due : Type 0 where
 abbrev pub largest-figure : ℕ
 largest-figure = 9_999_999_999
 
--- a line whose range is left to submission: every figure of ten digits passes
+-- a line whose range is left to submission: every figure of at most ten digits passes
 abbrev pub any-figure : (key : List ℕ) → Due
 any-figure key = record { key = key; least = 0; most = largest-figure }
 
@@ -67,7 +68,7 @@ lines (due ∷ dues) text at =
 
 -- A line as it is written: key, equals sign, number and line feed.
 unfoldable pub written-line : Due → ℕ → List ℕ
-written-line due n = due .key ++ decimal n ++ (line-feed ∷ [])
+written-line due n = field (due .key) n
 
 unfoldable pub written-lines : List Due → List ℕ → List ℕ
 written-lines [] ns = []

@@ -13,6 +13,11 @@ pub record Puts (old : List ℕ) (at : ℕ) (bytes : List ℕ) (new : List ℕ) 
   pub new-is : new ≡ overwritten old at bytes
   pub next-is : next ≡ at + length bytes
 
+-- texts, one after the other
+abbrev pub joined : List (List ℕ) → List ℕ
+joined [] = []
+joined (text ∷ texts) = text ++ joined texts
+
 -- a key with its equals sign, a number and a line feed
 abbrev pub field : (key : List ℕ) → ℕ → List ℕ
 field key n = key ++ decimal n ++ (line-feed ∷ [])

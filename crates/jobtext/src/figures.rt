@@ -5,9 +5,6 @@ ghost use lib.ListN.{length};
 ghost use Rattle.jobtext.specs.Figures.{decimal};
 ghost use Rattle.jobtext.specs.Put.{Puts, PutsField};
 
-// The most digits that a 64-bit number has.
-pub const WIDTH: usize = 20;
-
 // How many digits a number has.
 fn width(n: u64) -> usize
     ensures { λ r. ⌜ r ≡ length (decimal n) ⌝ }

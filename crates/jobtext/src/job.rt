@@ -129,7 +129,7 @@ fn read_runs(text: &[u8], at: usize) -> RunsRead
     }
 }
 
-// A line of a task that was refused.
+// A task one of whose lines was refused.
 fn no_task(line: Line) -> TaskRead
     ensures { λ r. ⌜ r .outcome ≡ reached line ⌝ }
 {
@@ -164,7 +164,7 @@ fn read_task(text: &[u8], at: usize) -> TaskRead
     }
 }
 
-// A line of a message that was refused.
+// A message one of whose lines was refused.
 fn no_message(line: Line) -> MessageRead
     ensures { λ r. ⌜ r .outcome ≡ reached line ⌝ }
 {

@@ -8,7 +8,7 @@ ghost use Rattle.jobtext.specs.Answers.{ScanIs, NumberIs, line-said};
 // The most digits that a figure has, and the largest figure that they can say.
 const DIGITS: usize = 10;
 
-pub const LARGEST: u64 = 9_999_999_999;
+const LARGEST: u64 = 9_999_999_999;
 
 // What a line says: its figure and the place after it, or the number of a refusal and the line's place.
 pub enum Line {

@@ -1,7 +1,9 @@
 -- Demand 3 of every script: what is printed is the journal's.
 use mathlib.Core.Path.{_≡_, refl, sym, ap, _∙_}
 use mathlib.Core.List.{List, _++_}
-use Prim.Native.Nat.{ℕ}
+use Prim.Native.Nat.{ℕ, _≤_}
+use lib.ListN.{length}
+use borrow.Author.Tests.{le-ltb}
 use Rattle.rules.specs.declared.Row.{Row}
 use Rattle.rules.specs.Words.{State, fresh, default-setup}
 use Rattle.rules.specs.Refusals.{step, answers, after}
@@ -10,7 +12,7 @@ use Rattle.rules.specs.Demands.{register-left, journal-left, Demand3}
 use Rattle.rules.proofs.Demand3.{demand-3}
 use Rattle.script.specs.Replies.{stop-line}
 use Rattle.script.specs.Listing.{listing}
-use Rattle.script.specs.Program.{script, replies, printed, journal-state, Demand3-of-script}
+use Rattle.script.specs.Program.{script, replies, printed, program, input-limit, journal-state, Demand3-of-script}
 
 -- equal fields, equal states
 same-state : (a b : State) → a .clock ≡ b .clock → a .rows ≡ b .rows → a .total ≡ b .total → a ≡ b
@@ -21,9 +23,9 @@ same-state a b p q r =
     state c l t = record { clock = c; rows = l; total = t }
 
 pub demand-3-of-script : (text : List ℕ) → Demand3-of-script default-setup text
-unfolding printed
+unfolding program printed
 demand-3-of-script text =
     let calls = script text .calls in
     let d : Demand3 default-setup calls = demand-3 default-setup calls in
     let state : register-left default-setup calls ≡ journal-state (journal-left default-setup calls) = same-state (register-left default-setup calls) (journal-state (journal-left default-setup calls)) (d .clock-agrees) (d .rows-agree) (d .total-agrees) in
-    record { printed-is = rw (d .answers-agree, state) refl; demand = d }
+    record { printed-is = λ few. rw (le-ltb input-limit (length text) few, d .answers-agree, state) refl; demand = d }

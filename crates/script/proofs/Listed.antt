@@ -17,8 +17,7 @@ use Rattle.rules.specs.Bounds as Bounds
 use Rattle.rules.proofs.Sequences.{getD-mem}
 use Rattle.reservation.specs.declared.Register.{Register}
 use Rattle.reservation.specs.Registers.{state-of, Valid}
-use Rattle.jobtext.specs.Laws.{joined}
-use Rattle.jobtext.specs.Put.{Puts, field}
+use Rattle.jobtext.specs.Put.{Puts, joined, field}
 use Rattle.jobtext.proofs.Put.{put-none, puts-then, puts-long}
 use Rattle.script.specs.Listing.{clock-key, total-key, held-key, row-bytes, sorted, heading, listing}
 use Rattle.script.specs.Answers.{Coded, task, message, AskCode, AskOrder, OrderIs, order-number, PutsAtMost, most-row}

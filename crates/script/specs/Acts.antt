@@ -1,8 +1,7 @@
 -- Document 01, "The program `register`": what it reads. An act is an act line and what follows it.
 use mathlib.Core.Bool.{cond}
 use mathlib.Core.List.{List}
-use mathlib.Core.Option.{Option, none, some}
-use Prim.Native.Nat.{ℕ, zero, suc, _+_}
+use Prim.Native.Nat.{ℕ, _+_}
 use lib.Dec.{leb}
 use lib.ListN.{length, drop}
 use Rattle.rules.specs.Refusals.{Call, submits, withdraws, moves}

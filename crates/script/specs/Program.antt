@@ -3,7 +3,7 @@ use mathlib.Core.Path.{_≡_}
 use mathlib.Core.Bool.{cond}
 use mathlib.Core.List.{List, [], _∷_, _++_}
 use mathlib.Core.Option.{Option, none, some}
-use Prim.Native.Nat.{ℕ, zero, suc}
+use Prim.Native.Nat.{ℕ, zero, suc, _≤_}
 use lib.Dec.{ltb}
 use lib.ListN.{length}
 use Rattle.rules.specs.declared.Answer.{Answer}
@@ -57,10 +57,11 @@ program s text = cond (ltb input-limit (length text)) (field refused-key 19 ++ l
 abbrev pub journal-state : Journal → State
 journal-state jn = record { clock = jn .clock; rows = rows-in (jn .entries); total = journal-total jn }
 
--- Demand 3 speaks of every script: what is printed are the journal's answers to its calls, and the listing of the journal's clock, rows and total.
+-- Demand 3 speaks of every script: what is printed are the journal's answers to its calls, and the listing of the journal's clock, rows and total. (An input above the limit makes no calls.)
 pub record Demand3-of-script (s : Setup) (text : List ℕ) : Type 0 where
   pub printed-is :
-      printed s fresh (script text)
+      length text ≤ input-limit →
+      program s text
       ≡ replies (script text .calls) (answers (journal-step s) empty (script text .calls))
       ++ stop-line (script text .stop)
       ++ listing (journal-state (journal-left s (script text .calls)))

@@ -1,8 +1,8 @@
 // The program `register` as a function on bytes: a script goes in, answers and a listing come out.
-pub mod acts;
-pub mod listing;
+mod acts;
+mod listing;
 mod order;
-pub mod replies;
+mod replies;
 
 use acts::Turn;
 use acts::next_act;

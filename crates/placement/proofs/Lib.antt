@@ -1,11 +1,13 @@
 -- Laws that the functions' proofs cite.
 pub mod Sums
 pub mod Passes
+pub mod Chaining
 pub mod Mirror
 pub mod Figures
 pub mod Foremost
 pub mod Tasks
 pub mod Gathering
+pub mod Made
 pub mod Crossings
 pub mod Gathered
 pub mod Attempts

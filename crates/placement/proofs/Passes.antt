@@ -236,7 +236,7 @@ module _ (rs starts finishes : List ℕ) (n k from len tick i r : ℕ) where
         below = sw .below;
       }
 
-  pub back-skip : SweptBack rs starts finishes n k from len tick i → AfterLastOf k rs i r → SweptBack rs starts finishes n k from len tick r
+  pub back-skip : SweptBack rs starts finishes n k from len tick i → AfterLastOf k rs 0 i r → SweptBack rs starts finishes n k from len tick r
   back-skip sw last =
       record {
         within = let a = sw .within in let b = last .within in omega arith;
@@ -264,14 +264,16 @@ looked-more key rs count from i h w e =
       none = λ j a b q. by-test (leb i j) (λ t. let l = leb-true i j t in let same : j ≡ i = omega arith in e (ap (λ n. getD rs n 0) (sym same) ∙ q)) (λ t. w .none j a (leb-false i j t) q);
     }
 
-pub record LookedBack (key : ℕ) (rs : List ℕ) (below i : ℕ) : Type 0 where
+pub record LookedBack (key : ℕ) (rs : List ℕ) (floor below i : ℕ) : Type 0 where
+  pub down : floor ≤ i
   pub within : i ≤ below
   pub none : (j : ℕ) → i ≤ j → j < below → getD rs j 0 ≡ key → ⊥
 
-pub back-looked-more : (key : ℕ) (rs : List ℕ) (below i : ℕ) → 0 < i → LookedBack key rs below i → (getD rs (i - 1) 0 ≡ key → ⊥) → LookedBack key rs below (i - 1)
-back-looked-more key rs below i h w e =
+pub back-looked-more : (key : ℕ) (rs : List ℕ) (floor below i : ℕ) → floor < i → LookedBack key rs floor below i → (getD rs (i - 1) 0 ≡ key → ⊥) → LookedBack key rs floor below (i - 1)
+back-looked-more key rs floor below i h w e =
     let within = w .within in
     record {
+      down = omega arith;
       within = omega arith;
       none = λ j a b q. by-test (leb i j) (λ t. w .none j (leb-true i j t) b q) (λ t. let l = leb-false i j t in let same : j ≡ i - 1 = omega arith in e (ap (λ n. getD rs n 0) (sym same) ∙ q));
     }

@@ -41,7 +41,7 @@ use Rattle.placement.proofs.Mirror.{mirror-kept}
 
 -- Facts of rows in range.
 
-listed-numbered : {s : Setup} {h : Holder} → Sound s → Listed s h → Numbered h
+pub listed-numbered : {s : Setup} {h : Holder} → Sound s → Listed s h → Numbered h
 listed-numbered sound (task m t) =
     let most = sound .room in
     let high = m .last in
@@ -83,11 +83,12 @@ module _ (s : Setup) (clock : ℕ) (held : List Row) (count : ℕ) (j : Job) (as
   abbrev range : InRange s j
   range = ask .in-range
 
-  pub ask-fill : {resources starts finishes : List ℕ} → length held ≡ row-limit → Widths resources starts finishes → AskFill held count resources starts finishes
-  ask-fill long widths =
+  pub ask-fill : {jobs resources starts finishes : List ℕ} → length held ≡ row-limit → length jobs ≡ row-limit → Widths resources starts finishes → AskFill held count jobs resources starts finishes
+  ask-fill long jobs-long widths =
       let few = ask .count-at-most in
       record {
         count-at-most = few;
+        jobs-long = jobs-long;
         numbered =
             λ i h.
             let there : i < length H = let l = length-take count held in omega arith in

@@ -5,6 +5,7 @@ use mir.Val.{Fits}
 use mir.Syntax.{w64}
 use Rattle.rules.specs.Words.{most-tasks, most-messages, most-machines, row-limit}
 use Rattle.placement.specs.Columns.{room}
+use Rattle.placement.specs.Chains.{keys, nodes}
 use Rattle.placement.specs.Placements.{most-own}
 
 -- a loop's measure, one turn on
@@ -104,3 +105,16 @@ machine-fits m h = omega arith
 
 pub machine-turn-fits : (m : ℕ) → m < 4 → Fits w64 (m + 1)
 machine-turn-fits m h = omega arith
+
+-- places of a chain
+pub chain-place : (i n : ℕ) → i < n → n ≤ row-limit → keys + i < nodes
+chain-place i n h m = omega arith
+
+pub place-fits : (n : ℕ) → n < nodes → Fits w64 n
+place-fits n h = omega arith
+
+pub node-fits : (n : ℕ) → n < nodes → Fits w64 (n * 8)
+node-fits n h = omega arith
+
+pub key-place : (k : ℕ) → k < keys → k < nodes
+key-place k h = omega arith

@@ -1,31 +1,33 @@
--- Laws of the order of tasks: which is ready, which is next, and the floor of its start.
+-- Laws of the order of tasks: which wait, which is next, and the floor of its start.
+use mathlib.Core.Logic.{_≢_}
 use mathlib.Core.Path.{_≡_, refl, sym, ap, _∙_}
-use mathlib.Core.Bool.{Bool, true, false, _&&_, and-false}
-use mathlib.Core.List.{List, [], _∷_, _++_, map, List·Memᴰ}
+use mathlib.Core.Bool.{Bool, true, false, not, _&&_, and-true, and-false}
+use mathlib.Core.List.{List, [], _∷_, _++_, map}
 use mathlib.Core.Option.{some}
 use Prim.Native.Nat.{ℕ, zero, suc, _+_, _-_, _*_, _≤_, _<_}
 use native.Mathlib.Omega.{arith}
 use native.Mathlib.Numerals.{add-one}
 use lib.Dec.{eqb, ltb}
-use lib.ListN.{getD, take, length, length-map}
-use lib.Seq.{take-suc, getD-take, length-take-le}
-use borrow.Author.Tests.{eqb-true, eqb-false, eq-eqb, ne-eqb, lt-ltb, le-ltb}
+use lib.ListN.{getD, take, set, replicate, length, length-map, length-set, getD-replicate}
+use lib.Seq.{take-suc, getD-take, getD-set-same, getD-set-other, length-take-le}
+use borrow.Author.Tests.{eqb-true, eqb-false, lt-ltb, le-ltb, not-true, not-false}
 use Rattle.rules.specs.declared.Row.{Row}
 use Rattle.rules.specs.declared.Message.{Message}
 use Rattle.rules.specs.declared.Job.{Job}
-use Rattle.rules.specs.Sequences.{all-of, cons-if, keep, sum-of, numbers, precedes, foremost}
+use Rattle.rules.specs.Sequences.{all-of, keep, sum-of, numbers, precedes, foremost}
 use Rattle.rules.specs.Words.{most-tasks, most-messages, largest-time, messages-of, no-task, task-of}
-use Rattle.rules.specs.Placing.{placed, into, ready, next-task, release}
-use Rattle.rules.proofs.Sequences.{by-test, clash, all-mem, keep-mem, keep-append, sum-append, getD-mem}
+use Rattle.rules.specs.Laws.{IsTask}
+use Rattle.rules.specs.Placing.{placed, ready, next-task, release}
+use Rattle.rules.proofs.Sequences.{by-test, keep-append, sum-append, getD-mem}
 use Rattle.rules.proofs.Choice.{false-precedes}
 use Rattle.placement.proofs.Foremost.{later, foremost-more, keep-passing, keep-failing, lower-precedes}
-use Rattle.placement.specs.Asked.{AskTask, AskRelease, Stands, next-of}
+use Rattle.placement.specs.Asked.{AskOrder, AskRelease, Stands, WaitingIs, next-of}
 
 -- the length of a field that is an array of structs, as what owning it tells has it
 pub length-mapped : (A B : Type 0) (f : A → B) (l : List A) (n : ℕ) → length (map f l) ≡ n → length l ≡ n
 length-mapped A B f l n e = sym (length-map l f) ∙ e
 
--- Which task is ready: message by message.
+-- Which tasks wait: message by message.
 
 all-append : {A : Type 0} (p : A → Bool) (a b : List A) → all-of p (a ++ b) ≡ all-of p a && all-of p b
 all-append p [] b = refl
@@ -37,92 +39,96 @@ no-message = record { sender = 0; receiver = 0; volume = 0 }
 abbrev pub message-at : Job → ℕ → Message
 message-at j i = getD (j .messages) i no-message
 
--- of the first i messages, those into the task come from tasks that are placed
-pub record Passed (j : Job) (machines finishes : List ℕ) (task i : ℕ) : Type 0 where
+-- of these messages, those into the task come from tasks that are placed
+abbrev all-placed : List Row → ℕ → List Message → Bool
+all-placed new t msgs = all-of (λ msg. placed new (msg .sender)) (keep (λ msg. eqb (msg .receiver) t) msgs)
+
+-- which tasks wait by the first i messages
+pub record Waited (j : Job) (machines finishes : List ℕ) (waits : List Bool) (i : ℕ) : Type 0 where
   pub within : i ≤ j .messagecount
-  pub long : length (j .messages) ≡ most-messages
-  pub senders :
-      (new : List Row) → Stands new machines finishes →
-      all-of (λ msg. placed new (msg .sender)) (keep (λ msg. eqb (msg .receiver) task) (take i (j .messages))) ≡ true
+  pub messages-long : length (j .messages) ≡ most-messages
+  pub long : length waits ≡ most-tasks
+  pub is :
+      (new : List Row) → Stands new machines finishes → (t : ℕ) → IsTask j t →
+      getD waits (t - 1) false ≡ not (all-placed new t (take i (j .messages)))
 
-pub passed-none :
-    (j : Job) (machines finishes : List ℕ) (task : ℕ) → length (j .messages) ≡ most-messages → Passed j machines finishes task 0
-passed-none j machines finishes task h = record { within = omega arith; long = h; senders = λ new stands. refl }
+pub waited-none :
+    (j : Job) (machines finishes : List ℕ) → AskOrder j → length (j .messages) ≡ most-messages → Waited j machines finishes (replicate most-tasks false) 0
+waited-none j machines finishes ask h = record {
+  within = omega arith;
+  messages-long = h;
+  long = refl;
+  is = λ new stands t listed. getD-replicate most-tasks (t - 1) false false (omega arith);
+}
 
-pub placed-unready :
-    {j : Job} {machines finishes : List ℕ} {task : ℕ} → AskTask j task → (getD machines (task - 1) 0 ≡ 0 → ⊥) →
-    (new : List Row) → Stands new machines finishes → false ≡ ready j new task
-unfolding ready
-placed-unready {machines = machines} {task = task} ask own new stands =
-    let is = stands .placed-is task (ask .listed .first) (omega arith) ∙ lt-ltb 0 (getD machines (task - 1) 0) (omega (arith, own)) in
-    rw is refl
-
-module _ {j : Job} {machines finishes : List ℕ} {task i : ℕ} (ask : AskTask j task) (passed : Passed j machines finishes task i) where
-  -- it is ready once all messages are passed
-  pub passed-ready :
-      getD machines (task - 1) 0 ≡ 0 → j .messagecount ≤ i → (new : List Row) → Stands new machines finishes → true ≡ ready j new task
-  unfolding ready
-  passed-ready own all new stands =
+module _ {j : Job} {machines finishes : List ℕ} {waits : List Bool} {i : ℕ} (ask : AskOrder j) (sofar : Waited j machines finishes waits i) where
+  pub waited-all : j .messagecount ≤ i → WaitingIs j machines finishes waits
+  waited-all all =
       let same : j .messagecount ≡ i = omega arith in
-      let unplaced = stands .placed-is task (ask .listed .first) (omega arith) ∙ le-ltb 0 (getD machines (task - 1) 0) (omega arith) in
-      rw (unplaced, same, passed .senders new stands) refl
+      record { long = sofar .long; is = λ new stands t listed. rw same (sofar .is new stands t listed) }
 
   module _ (more : i < j .messagecount) where
-    listed : List·Memᴰ (message-at j i) (messages-of j)
-    listed =
-        rw
+    ends : IsTask j (message-at j i .sender) × IsTask j (message-at j i .receiver)
+    ends =
+        ask .ends
+        (message-at j i)
+        (rw
         (← getD-take (j .messagecount) (j .messages) i no-message more)
-        (getD-mem (messages-of j) i _ (rw (length-take-le (j .messagecount) (j .messages) (omega arith)) more))
+        (getD-mem (messages-of j) i _ (rw (length-take-le (j .messagecount) (j .messages) (let l = sofar .messages-long in omega arith)) more)))
 
     pub sender-within : (1 ≤ message-at j i .sender) × (message-at j i .sender ≤ most-tasks)
-    sender-within =
-        let is = ask .order .ends (message-at j i) listed .0 in
-        (is .first, omega arith)
+    sender-within = let is = ends .0 in (is .first, omega arith)
+
+    pub receiver-within : (1 ≤ message-at j i .receiver) × (message-at j i .receiver ≤ most-tasks)
+    receiver-within = let is = ends .1 in (is .first, omega arith)
 
     sender-placed : (new : List Row) → Stands new machines finishes → placed new (message-at j i .sender) ≡ ltb 0 (getD machines (message-at j i .sender - 1) 0)
     sender-placed new stands = stands .placed-is (message-at j i .sender) (sender-within .0) (sender-within .1)
 
-    passed-more :
-        ((new : List Row) → Stands new machines finishes →
-        all-of (λ msg. placed new (msg .sender)) (cons-if (eqb (message-at j i .receiver) task) (message-at j i) []) ≡ true) →
-        Passed j machines finishes task (i + 1)
-    passed-more h =
-        let below : i < length (j .messages) = omega arith in
+    one-more :
+        (new : List Row) (t : ℕ) →
+        all-placed new t (take (i + 1) (j .messages)) ≡ all-placed new t (take i (j .messages)) && all-placed new t (message-at j i ∷ [])
+    one-more new t =
+        let below : i < length (j .messages) = let l = sofar .messages-long in omega arith in
+        rw (add-one, take-suc (j .messages) i no-message below, keep-append, all-append) refl
+
+    pub waited-placed : (getD machines (message-at j i .sender - 1) 0 ≡ 0 → ⊥) → Waited j machines finishes waits (i + 1)
+    waited-placed ne =
         record {
           within = omega arith;
-          long = passed .long;
-          senders =
-              λ new stands.
-              rw (
-                add-one,
-                take-suc (j .messages) i no-message below,
-                keep-append,
-                all-append,
-                passed .senders new stands,
-              )
-              (h new stands);
+          messages-long = sofar .messages-long;
+          long = sofar .long;
+          is =
+              λ new stands t listed.
+              let is = sender-placed new stands ∙ lt-ltb 0 (getD machines (message-at j i .sender - 1) 0) (omega (arith, ne)) in
+              let passes : all-placed new t (message-at j i ∷ []) ≡ true
+              = by-test (eqb (message-at j i .receiver) t) (λ h. rw (h, is) refl) (λ h. rw h refl) in
+              rw (one-more new t, passes, and-true) (sofar .is new stands t listed);
         }
 
-    pub passed-other : (message-at j i .receiver ≡ task → ⊥) → Passed j machines finishes task (i + 1)
-    passed-other ne = passed-more (λ new stands. rw (ne-eqb (message-at j i .receiver) task ne) refl)
-
-    pub passed-placed : (getD machines (message-at j i .sender - 1) 0 ≡ 0 → ⊥) → Passed j machines finishes task (i + 1)
-    passed-placed ne =
-        passed-more
-        (λ new stands.
-        let is = sender-placed new stands ∙ lt-ltb 0 (getD machines (message-at j i .sender - 1) 0) (omega (arith, ne)) in
-        by-test (eqb (message-at j i .receiver) task) (λ h. rw (h, is) refl) (λ h. rw h refl))
-
-    pub sender-unplaced :
-        message-at j i .receiver ≡ task → getD machines (message-at j i .sender - 1) 0 ≡ 0 → (new : List Row) → Stands new machines finishes →
-        false ≡ ready j new task
-    unfolding ready
-    sender-unplaced into-it e new stands =
-        let is-not = sender-placed new stands ∙ le-ltb 0 (getD machines (message-at j i .sender - 1) 0) (omega arith) in
-        let its = keep-mem (λ msg. eqb (msg .receiver) task) listed (eq-eqb (message-at j i .receiver) task into-it) in
-        let none : all-of (λ msg. placed new (msg .sender)) (into j task) ≡ false
-        = by-test (all-of (λ msg. placed new (msg .sender)) (into j task)) (λ h. clash (all-mem _ h its) is-not) (λ h. h) in
-        rw (none, and-false) refl
+    pub waited-unplaced : getD machines (message-at j i .sender - 1) 0 ≡ 0 → Waited j machines finishes (set waits (message-at j i .receiver - 1) true) (i + 1)
+    waited-unplaced e =
+        record {
+          within = omega arith;
+          messages-long = sofar .messages-long;
+          long = length-set waits (message-at j i .receiver - 1) true ∙ sofar .long;
+          is =
+              λ new stands t listed.
+              let is-not = sender-placed new stands ∙ le-ltb 0 (getD machines (message-at j i .sender - 1) 0) (omega arith) in
+              let receiver = message-at j i .receiver in
+              by-test
+              (eqb receiver t)
+              (λ h.
+              let at : receiver - 1 < length waits = let l = sofar .long in let w = receiver-within in omega arith in
+              let waits-now : all-placed new t (message-at j i ∷ []) ≡ false = rw (h, is-not) refl in
+              rw (one-more new t, waits-now, and-false, ← eqb-true receiver t h, getD-set-same waits (receiver - 1) true false at) refl)
+              (λ h.
+              let ne = eqb-false receiver t h in
+              let w = receiver-within in
+              let other : t - 1 ≢ receiver - 1 = omega (arith, ne) in
+              let passes : all-placed new t (message-at j i ∷ []) ≡ true = rw h refl in
+              rw (one-more new t, passes, and-true, getD-set-other waits (receiver - 1) (t - 1) true false other) (sofar .is new stands t listed));
+        }
 
 -- Which task is next: task by task.
 
@@ -144,8 +150,16 @@ next-some : {t : ℕ} → (t ≡ 0 → ⊥) → next-of t ≡ some t
 next-some {t = zero} ne = absurd (ne refl)
 next-some {t = suc t} ne = refl
 
-task-at : (j : Job) (t : ℕ) → task-of j (t + 1) ≡ getD (j .tasks) t no-task
+pub task-at : (j : Job) (t : ℕ) → task-of j (t + 1) ≡ getD (j .tasks) t no-task
 task-at j t = let same : t + 1 - 1 ≡ t = omega arith in ap (λ i. getD (j .tasks) i no-task) same
+
+-- whether the task after the first t is placed
+placed-next :
+    {new : List Row} {machines finishes : List ℕ} → Stands new machines finishes → (t : ℕ) → t < most-tasks →
+    placed new (t + 1) ≡ ltb 0 (getD machines t 0)
+placed-next {machines = machines} stands t h =
+    let same : t + 1 - 1 ≡ t = omega arith in
+    stands .placed-is (t + 1) (omega arith) (omega arith) ∙ ap (λ i. ltb 0 (getD machines i 0)) same
 
 -- a task of a higher number and no earlier deadline does not precede
 no-earlier :
@@ -160,61 +174,82 @@ module _ {j : Job} {machines finishes : List ℕ} {best deadline t : ℕ} (sofar
       let same : t ≡ j .taskcount = omega arith in
       sofar .is-best new stands ∙ ap (λ n. foremost (figures j) (keep (ready j new) (numbers 1 n))) same
 
-  module _ (more : t < j .taskcount) {r : Bool} (known : (new : List Row) → Stands new machines finishes → r ≡ ready j new (t + 1)) where
-    pub best-unready : r ≡ false → Best j machines finishes best deadline (t + 1)
-    best-unready e =
+  module _ (ask : AskOrder j) (more : t < j .taskcount) where
+    best-unready : ((new : List Row) → Stands new machines finishes → ready j new (t + 1) ≡ false) → Best j machines finishes best deadline (t + 1)
+    best-unready known =
         record {
           within = omega arith;
           among = omega arith;
           its = sofar .its;
-          is-best = λ new stands. rw (keep-failing (ready j new) t (sym (known new stands) ∙ e)) (sofar .is-best new stands);
+          is-best = λ new stands. rw (keep-failing (ready j new) t (known new stands)) (sofar .is-best new stands);
         }
 
-    module _ (is : r ≡ true) where
-      with-more :
-          (new : List Row) → Stands new machines finishes →
-          foremost (figures j) (keep (ready j new) (numbers 1 (t + 1))) ≡ some (later (figures j) (t + 1) (next-of best))
-      with-more new stands =
-          rw
-          (keep-passing (ready j new) t (sym (known new stands) ∙ is), sofar .is-best new stands)
-          (foremost-more (figures j) (keep (ready j new) (numbers 1 t)) (t + 1))
+    pub best-placed : (getD machines t 0 ≡ 0 → ⊥) → Best j machines finishes best deadline (t + 1)
+    unfolding ready
+    best-placed ne =
+        best-unready (λ new stands. rw (placed-next stands t (omega arith) ∙ lt-ltb 0 (getD machines t 0) (omega (arith, ne))) refl)
 
-      pub best-kept : (best ≡ 0 → ⊥) → deadline ≤ getD (j .tasks) t no-task .deadline → Best j machines finishes best deadline (t + 1)
-      best-kept ne h =
-          let was = sofar .its ne in
-          let own = ap (λ task. task .deadline) (task-at j t) in
-          let behind = no-earlier j t best (sofar .among) (omega arith) in
-          record {
-            within = omega arith;
-            among = omega arith;
-            its = sofar .its;
-            is-best = λ new stands. next-some ne ∙ sym (with-more new stands ∙ rw (next-some ne, behind) refl);
-          }
+    module _ {waits : List Bool} (waiting : WaitingIs j machines finishes waits) where
+      waits-next : (new : List Row) → Stands new machines finishes → getD waits t false ≡ not (all-placed new (t + 1) (messages-of j))
+      waits-next new stands =
+          let same : t + 1 - 1 ≡ t = omega arith in
+          ap (λ i. getD waits i false) (sym same) ∙ waiting .is new stands (t + 1) (record { first = omega arith; last = omega arith })
 
-      pub best-taken :
-          ((best ≡ 0 → ⊥) → getD (j .tasks) t no-task .deadline < deadline) →
-          Best j machines finishes (t + 1) (getD (j .tasks) t no-task .deadline) (t + 1)
-      best-taken h = record {
-        within = omega arith;
-        among = omega arith;
-        its = λ ne. sym own;
-        is-best = λ new stands. next-some (omega arith) ∙ sym (with-more new stands ∙ ap some first);
-      }
-        where
-          own : task-of j (t + 1) .deadline ≡ getD (j .tasks) t no-task .deadline
-          own = ap (λ task. task .deadline) (task-at j t)
+      pub best-waits : getD waits t false ≡ true → Best j machines finishes best deadline (t + 1)
+      unfolding ready
+      best-waits e = best-unready (λ new stands. rw (not-true (all-placed new (t + 1) (messages-of j)) (sym (waits-next new stands) ∙ e), and-false) refl)
 
-          first : later (figures j) (t + 1) (next-of best) ≡ t + 1
-          first =
-              by-test
-              (eqb best 0)
-              (λ e. rw (eqb-true best 0 e) refl)
-              (λ e.
-              let ne = eqb-false best 0 e in
-              let was = sofar .its ne in
-              let lower = h ne in
-              let earlier : task-of j (t + 1) .deadline < task-of j best .deadline = omega (arith, own) in
-              rw (next-some ne, lower-precedes _ _ ((t + 1) ∷ []) (best ∷ []) earlier) refl)
+      module _ (unplaced : getD machines t 0 ≡ 0) (goes : getD waits t false ≡ false) where
+        is-ready : (new : List Row) → Stands new machines finishes → ready j new (t + 1) ≡ true
+        unfolding ready
+        is-ready new stands =
+            let own = placed-next stands t (omega arith) ∙ le-ltb 0 (getD machines t 0) (omega arith) in
+            rw (own, not-false (all-placed new (t + 1) (messages-of j)) (sym (waits-next new stands) ∙ goes)) refl
+
+        with-more :
+            (new : List Row) → Stands new machines finishes →
+            foremost (figures j) (keep (ready j new) (numbers 1 (t + 1))) ≡ some (later (figures j) (t + 1) (next-of best))
+        with-more new stands =
+            rw
+            (keep-passing (ready j new) t (is-ready new stands), sofar .is-best new stands)
+            (foremost-more (figures j) (keep (ready j new) (numbers 1 t)) (t + 1))
+
+        pub best-kept : (best ≡ 0 → ⊥) → deadline ≤ getD (j .tasks) t no-task .deadline → Best j machines finishes best deadline (t + 1)
+        best-kept ne h =
+            let was = sofar .its ne in
+            let own = ap (λ task. task .deadline) (task-at j t) in
+            let behind = no-earlier j t best (sofar .among) (omega arith) in
+            record {
+              within = omega arith;
+              among = omega arith;
+              its = sofar .its;
+              is-best = λ new stands. next-some ne ∙ sym (with-more new stands ∙ rw (next-some ne, behind) refl);
+            }
+
+        pub best-taken :
+            ((best ≡ 0 → ⊥) → getD (j .tasks) t no-task .deadline < deadline) →
+            Best j machines finishes (t + 1) (getD (j .tasks) t no-task .deadline) (t + 1)
+        best-taken h = record {
+          within = omega arith;
+          among = omega arith;
+          its = λ ne. sym own;
+          is-best = λ new stands. next-some (omega arith) ∙ sym (with-more new stands ∙ ap some first);
+        }
+          where
+            own : task-of j (t + 1) .deadline ≡ getD (j .tasks) t no-task .deadline
+            own = ap (λ task. task .deadline) (task-at j t)
+
+            first : later (figures j) (t + 1) (next-of best) ≡ t + 1
+            first =
+                by-test
+                (eqb best 0)
+                (λ e. rw (eqb-true best 0 e) refl)
+                (λ e.
+                let ne = eqb-false best 0 e in
+                let was = sofar .its ne in
+                let lower = h ne in
+                let earlier : task-of j (t + 1) .deadline < task-of j best .deadline = omega (arith, own) in
+                rw (next-some ne, lower-precedes _ _ ((t + 1) ∷ []) (best ∷ []) earlier) refl)
 
 -- The floor of a task's start: task by task.
 
@@ -239,9 +274,7 @@ module _ {j : Job} {machines finishes : List ℕ} {clock task sum t : ℕ} (ask 
 
   module _ (more : t < j .taskcount) where
     placed-at : (new : List Row) → Stands new machines finishes → placed new (t + 1) ≡ ltb 0 (getD machines t 0)
-    placed-at new stands =
-        let same : t + 1 - 1 ≡ t = omega arith in
-        stands .placed-is (t + 1) (omega arith) (omega arith) ∙ ap (λ i. ltb 0 (getD machines i 0)) same
+    placed-at new stands = placed-next stands t (omega arith)
 
     pub dispatch-at-most : getD (j .tasks) t no-task .dispatch ≤ largest-time
     dispatch-at-most =

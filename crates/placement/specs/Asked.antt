@@ -1,6 +1,6 @@
 -- What each function asks of its caller, and how code's values stand for those of the rules.
 use mathlib.Core.Path.{_≡_}
-use mathlib.Core.Bool.{true}
+use mathlib.Core.Bool.{Bool, true, false, not}
 use mathlib.Core.List.{List, List·Memᴰ}
 use mathlib.Core.Option.{Option, none, some}
 use Prim.Native.Nat.{ℕ, zero, suc, _-_, _≤_, _<_}
@@ -12,8 +12,9 @@ use Rattle.rules.specs.declared.Row.{Row}
 use Rattle.rules.specs.declared.Message.{Message}
 use Rattle.rules.specs.declared.Job.{Job}
 use Rattle.rules.specs.declared.Setup.{Setup}
+use Rattle.rules.specs.Sequences.{all-of}
 use Rattle.rules.specs.Words.{HasMachine, HasLink, most-tasks, most-messages, largest-time, largest-volume, horizon, row-limit, task-of}
-use Rattle.rules.specs.Placing.{placed, task-row, machine-for, no-row}
+use Rattle.rules.specs.Placing.{placed, into, task-row, machine-for, no-row}
 use Rattle.rules.specs.Laws.{IsTask, EndsListed}
 use Rattle.rules.specs.Bounds.{Sound}
 use Rattle.placement.specs.Columns.{tick-bound, Widths}
@@ -42,8 +43,9 @@ pub data Numbered : Holder → Type 0 where
   on-machine : {m t : ℕ} → HasMachine m → Numbered (TaskOn m t)
   on-link : {a b x y : ℕ} → HasLink a b → Numbered (MessageOn a b x y)
 
-pub record AskFill (rows : List Row) (count : ℕ) (resources starts finishes : List ℕ) : Type 0 where
+pub record AskFill (rows : List Row) (count : ℕ) (jobs resources starts finishes : List ℕ) : Type 0 where
   pub count-at-most : count ≤ row-limit
+  pub jobs-long : length jobs ≡ row-limit
   pub numbered : (i : ℕ) → i < count → Numbered (getD rows i no-row .holder)
   pub widths : Widths resources starts finishes
 
@@ -54,10 +56,6 @@ pub record AskOrder (j : Job) : Type 0 where
   pub tasks : j .taskcount ≤ most-tasks
   pub messages : j .messagecount ≤ most-messages
   pub ends : EndsListed j
-
-pub record AskTask (j : Job) (t : ℕ) : Type 0 where
-  pub order : AskOrder j
-  pub listed : IsTask j t
 
 pub record AskRelease (j : Job) (clock t : ℕ) : Type 0 where
   pub order : AskOrder j
@@ -71,6 +69,13 @@ pub record Stands (new : List Row) (machines finishes : List ℕ) : Type 0 where
   pub placed-is : (t : ℕ) → 1 ≤ t → t ≤ most-tasks → placed new t ≡ ltb 0 (getD machines (t - 1) 0)
   pub machine-is : (t : ℕ) → 1 ≤ t → t ≤ most-tasks → placed new t ≡ true → machine-for new t ≡ getD machines (t - 1) 0
   pub finish-is : (t : ℕ) → 1 ≤ t → t ≤ most-tasks → placed new t ≡ true → task-row new t .finish ≡ getD finishes (t - 1) 0
+
+-- for each task, whether some message into it has a sender that is not placed
+pub record WaitingIs (j : Job) (machines finishes : List ℕ) (waits : List Bool) : Type 0 where
+  pub long : length waits ≡ most-tasks
+  pub is :
+      (new : List Row) → Stands new machines finishes → (t : ℕ) → IsTask j t →
+      getD waits (t - 1) false ≡ not (all-of (λ msg. placed new (msg .sender)) (into j t))
 
 -- the number 0 says that no task is ready
 abbrev pub next-of : ℕ → Option ℕ

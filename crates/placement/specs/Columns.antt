@@ -5,7 +5,7 @@ use Prim.Native.Nat.{ℕ, zero, suc, _+_, _*_, _^_, _≤_, _<_}
 use lib.Dec.{eqb}
 use lib.ListN.{length, getD}
 use Rattle.rules.specs.Sequences.{cons-if}
-use Rattle.rules.specs.Words.{Span, Resource, machine, link, most-machines, resource}
+use Rattle.rules.specs.Words.{Span, Resource, machine, link, most-machines, resource, row-limit}
 use Rattle.rules.specs.Placing.{no-row}
 use Rattle.rules.specs.declared.Row.{Row}
 
@@ -57,3 +57,8 @@ pub record Mirrors (rows : List Row) (resources starts finishes : List ℕ) (n :
   pub resources-are : (i : ℕ) → i < n → getD resources i 0 ≡ key (resource (getD rows i no-row))
   pub starts-are : (i : ℕ) → i < n → getD starts i 0 ≡ getD rows i no-row .start
   pub finishes-are : (i : ℕ) → i < n → getD finishes i 0 ≡ getD rows i no-row .finish
+
+-- a column of a figure of the rows in an array, up to the count
+pub record ColumnOf (figure : Row → ℕ) (rows : List Row) (count : ℕ) (column : List ℕ) : Type 0 where
+  pub long : length column ≡ row-limit
+  pub is : (i : ℕ) → i < count → getD column i 0 ≡ figure (getD rows i no-row)

@@ -35,8 +35,9 @@ pub record NextOf (key : ℕ) (resources : List ℕ) (count from r : ℕ) : Type
   pub none : (j : ℕ) → from ≤ j → j < r → getD resources j 0 ≡ key → ⊥
   pub here : r < count → getD resources r 0 ≡ key
 
--- none below a place is of the resource, down to just past one that is or 0
-pub record AfterLastOf (key : ℕ) (resources : List ℕ) (below r : ℕ) : Type 0 where
+-- none below a place is of the resource, down to just past one that is or the floor
+pub record AfterLastOf (key : ℕ) (resources : List ℕ) (floor below r : ℕ) : Type 0 where
+  pub down : floor ≤ r
   pub within : r ≤ below
   pub none : (j : ℕ) → r ≤ j → j < below → getD resources j 0 ≡ key → ⊥
-  pub here : 0 < r → getD resources (r - 1) 0 ≡ key
+  pub here : floor < r → getD resources (r - 1) 0 ≡ key

@@ -65,3 +65,17 @@ pub record PlacementIs (s : Setup) (clock : ℕ) (held : List Row) (count : ℕ)
   pub count-at-most : r .count ≤ most-own
   pub long : length (r .rows) ≡ most-own
   pub cost-is : r .cost ≡ costs (take (r .count) (r .rows))
+
+-- Placing reads the columns of the held rows, and no row.
+
+pub record AskPlaceAmong (s : Setup) (clock : ℕ) (j : Job) (resources starts finishes : List ℕ) (count : ℕ) : Type 0 where
+  pub held : List Row
+  pub ask : AskPlace s clock held count j
+  pub widths : Widths resources starts finishes
+  pub mirrors : Mirrors (take count held) resources starts finishes count
+
+-- whatever rows the columns are those of
+abbrev pub PlacedAmong : (s : Setup) (clock : ℕ) (j : Job) (resources starts finishes : List ℕ) (count : ℕ) (r : Placement) → Type 0
+PlacedAmong s clock j resources starts finishes count r =
+    (held : List Row) → AskPlace s clock held count j → Mirrors (take count held) resources starts finishes count →
+    PlacementIs s clock held count j r

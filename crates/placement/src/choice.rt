@@ -1,5 +1,6 @@
 // The choice among the machines: the good trial of lowest cost, then of earliest start, then of lowest machine.
 use crate::Attempt;
+use crate::NODES;
 use crate::SPANS;
 use crate::Standing;
 use crate::TRIED;
@@ -11,6 +12,7 @@ ghost use mathlib.Core.Path.{_≡_};
 ghost use mathlib.Core.Bool.{_||_, _&&_, not};
 ghost use mathlib.Core.Bool.{false};
 ghost use lib.Dec.{ltb, eqb};
+ghost use Rattle.placement.specs.Chains.{Chained};
 ghost use Rattle.placement.specs.Trials.{AttemptBounds, AskChoice, ChoiceIs};
 
 // The trial kept, if there is one, and its machine.
@@ -64,9 +66,13 @@ pub fn choose<'a>(
     resources: &'a mut [u64; SPANS],
     starts: &'a mut [u64; SPANS],
     finishes: &'a mut [u64; SPANS],
+    nexts: &'a [usize; NODES],
+    backs: &'a [usize; NODES],
+    held: usize,
     used: usize,
 ) -> Kept
     requires { ⌜ AskChoice s job (standing .machines) (standing .finishes) task release (now resources) (now starts) (now finishes) used ⌝ }
+    requires { ⌜ Chained (now resources) (now nexts) (now backs) held used ⌝ }
     ensures { λ r. ⌜ ChoiceIs s job (standing .machines) (standing .finishes) task release (now (resources .entry)) (now (starts .entry)) (now (finishes .entry)) used (now (resources .exit)) (now (starts .exit)) (now (finishes .exit)) r ⌝ }
 {
     let at = (task - 1) as usize;
@@ -90,6 +96,9 @@ pub fn choose<'a>(
             resources,
             starts,
             finishes,
+            nexts,
+            backs,
+            held,
             used,
         );
         if its.deadline < tried.finish {

@@ -8,7 +8,7 @@ ghost use mathlib.Core.Path.{_≡_};
 ghost use Prim.Native.Nat.{_<_};
 ghost use lib.ListN.{take, set};
 ghost use Rattle.rules.specs.Words.{link, held-by, resource, HasLink};
-ghost use Rattle.placement.specs.Columns.{key, room, Mirrors, Widths};
+ghost use Rattle.placement.specs.Columns.{key, room, Mirrors, Widths, ColumnOf};
 ghost use Rattle.placement.specs.Asked.{Numbered, AskFill};
 
 // The number of the link from machine a to machine b, past those of the machines.
@@ -54,21 +54,24 @@ pub fn put<'a>(
     finishes[at] = row.finish;
 }
 
-// The columns of the held rows.
+// The columns of the held rows, and beside them the jobs that the rows carry.
 pub fn fill<'a>(
     rows: [Row; HELD],
     count: usize,
+    jobs: &'a mut [u64; HELD],
     resources: &'a mut [u64; SPANS],
     starts: &'a mut [u64; SPANS],
     finishes: &'a mut [u64; SPANS],
 )
-    requires { ⌜ AskFill rows count (now resources) (now starts) (now finishes) ⌝ }
+    requires { ⌜ AskFill rows count (now jobs) (now resources) (now starts) (now finishes) ⌝ }
+    ensures { λ _. ⌜ ColumnOf (λ row. row .job) rows count (now (jobs .exit)) ⌝ }
     ensures { λ _. ⌜ Widths (now (resources .exit)) (now (starts .exit)) (now (finishes .exit)) ⌝ }
     ensures { λ _. ⌜ Mirrors (take count rows) (now (resources .exit)) (now (starts .exit)) (now (finishes .exit)) count ⌝ }
 {
     let mut i: usize = 0;
     while i < count {
         let row = rows[i];
+        jobs[i] = row.job;
         put(row, i, resources, starts, finishes);
         i += 1;
     }

@@ -1,5 +1,6 @@
 // DRCD placement: where a job's tasks and messages go among the rows that are held.
 pub mod bookings;
+pub mod chains;
 pub mod choice;
 pub mod columns;
 pub mod order;
@@ -17,6 +18,11 @@ pub const OWN: usize = rules::TASKS + rules::MESSAGES;
 pub const TRIED: usize = rules::MESSAGES + 1;
 
 pub const SPANS: usize = HELD + OWN + rules::MESSAGES;
+
+// The numbers of resources lie below `KEYS`; a chain has a place for each of them and for each held row.
+pub const KEYS: usize = (rules::MACHINES + 1) * (rules::MACHINES + 1);
+
+pub const NODES: usize = KEYS + HELD;
 
 // Where a job's tasks stand so far: the machine, 0 while a task is not placed, and the finish.
 pub struct Standing {

@@ -1,36 +1,32 @@
-// The order of the tasks: which is ready, which is next, and when it may start.
+// The order of the tasks: which wait, which is next, and when it may start.
 use crate::Standing;
 use rules::Job;
+use rules::TASKS;
 ghost use mathlib.Core.Path.{_≡_};
 ghost use mathlib.Core.List.{List};
 ghost use Prim.Native.Nat.{_≤_};
 ghost use Rattle.rules.specs.declared.Row.{Row};
-ghost use Rattle.rules.specs.Placing.{ready, next-task, release};
-ghost use Rattle.placement.specs.Asked.{AskOrder, AskTask, AskRelease, Stands, next-of};
+ghost use Rattle.rules.specs.Placing.{next-task, release};
+ghost use Rattle.placement.specs.Asked.{AskOrder, AskRelease, Stands, WaitingIs, next-of};
 
-// The senders of all messages into the task are placed, and the task is not.
-pub fn is_ready(job: Job, standing: Standing, task: u64) -> bool
-    requires { ⌜ AskTask job task ⌝ }
-    ensures { λ r. ⌜ ((new : List Row) → Stands new (standing .machines) (standing .finishes) → r ≡ ready job new task) ⌝ }
+// The tasks that wait: some message into them has a sender that is not placed.
+fn waiting(job: Job, standing: Standing) -> [bool; TASKS]
+    requires { ⌜ AskOrder job ⌝ }
+    ensures { λ r. ⌜ WaitingIs job (standing .machines) (standing .finishes) r ⌝ }
 {
-    let own = (task - 1) as usize;
-    if standing.machines[own] != 0 {
-        return false;
-    }
+    let mut waits = [false; TASKS];
     let count = job.messagecount as usize;
     let mut i: usize = 0;
     while i < count {
         let msg = job.messages[i];
         i += 1;
-        if msg.receiver != task {
-            continue;
-        }
         let sender = (msg.sender - 1) as usize;
         if standing.machines[sender] == 0 {
-            return false;
+            let receiver = (msg.receiver - 1) as usize;
+            waits[receiver] = true;
         }
     }
-    true
+    waits
 }
 
 // Of the tasks that are ready the one with the earliest deadline, then the lowest number; 0 if none is.
@@ -38,13 +34,18 @@ pub fn next_ready(job: Job, standing: Standing) -> u64
     requires { ⌜ AskOrder job ⌝ }
     ensures { λ r. ⌜ ((new : List Row) → Stands new (standing .machines) (standing .finishes) → next-of r ≡ next-task job new) ⌝ }
 {
+    let waits = waiting(job, standing);
     let mut best: u64 = 0;
     let mut deadline: u64 = 0;
     let mut t: u64 = 0;
     while t < job.taskcount {
-        let its = job.tasks[t as usize].deadline;
+        let at = t as usize;
+        let its = job.tasks[at].deadline;
         t += 1;
-        if !is_ready(job, standing, t) {
+        if standing.machines[at] != 0 {
+            continue;
+        }
+        if waits[at] {
             continue;
         }
         if best != 0 && deadline <= its {

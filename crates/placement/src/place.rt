@@ -1,11 +1,12 @@
 // A whole job placed, task by task.
 use crate::Attempt;
-use crate::HELD;
+use crate::NODES;
 use crate::OWN;
 use crate::SPANS;
 use crate::Standing;
+use crate::chains::backs_of;
+use crate::chains::nexts_of;
 use crate::choice::choose;
-use crate::columns::fill;
 use crate::columns::put;
 use crate::order::next_ready;
 use crate::order::release_time;
@@ -15,7 +16,8 @@ use rules::Row;
 use rules::Setup;
 use rules::TASKS;
 ghost use mathlib.Core.Path.{_≡_};
-ghost use Rattle.placement.specs.Placements.{AskAppend, Appended, AskPlace, PlacementIs, none-placed};
+ghost use Rattle.placement.specs.Chains.{Chained};
+ghost use Rattle.placement.specs.Placements.{AskAppend, Appended, AskPlaceAmong, PlacedAmong, none-placed};
 
 // A job's rows, how many and their cost; or the task that has no good trial at its turn.
 pub struct Placement {
@@ -26,7 +28,7 @@ pub struct Placement {
 }
 
 // No rows, and no task that is late or the one given.
-fn without_rows(task: u64) -> Placement
+pub fn without_rows(task: u64) -> Placement
     ensures { λ r. ⌜ r ≡ none-placed task ⌝ }
 {
     let rows = [blank(); OWN];
@@ -68,15 +70,22 @@ fn append<'a>(
     }
 }
 
-// DRCD: one turn for each task, the next that is ready on the machine of the best trial.
-pub fn place(s: Setup, clock: u64, held: [Row; HELD], count: usize, job: Job) -> Placement
-    requires { ⌜ AskPlace s clock held count job ⌝ }
-    ensures { λ r. ⌜ PlacementIs s clock held count job r ⌝ }
+// DRCD: one turn for each task, the next that is ready on the machine of the best trial. The columns are those of the held rows, chained; the job's own spans follow them.
+fn place_tasks<'a>(
+    s: Setup,
+    clock: u64,
+    job: Job,
+    resources: &'a mut [u64; SPANS],
+    starts: &'a mut [u64; SPANS],
+    finishes: &'a mut [u64; SPANS],
+    nexts: &'a [usize; NODES],
+    backs: &'a [usize; NODES],
+    held: usize,
+) -> Placement
+    requires { ⌜ AskPlaceAmong s clock job (now resources) (now starts) (now finishes) held ⌝ }
+    requires { ⌜ Chained (now resources) (now nexts) (now backs) held held ⌝ }
+    ensures { λ r. ⌜ PlacedAmong s clock job (now (resources .entry)) (now (starts .entry)) (now (finishes .entry)) held r ⌝ }
 {
-    let mut resources = [0u64; SPANS];
-    let mut starts = [0u64; SPANS];
-    let mut finishes = [0u64; SPANS];
-    fill(held, count, &mut resources, &mut starts, &mut finishes);
     let mut standing = Standing {
         machines: [0; TASKS],
         finishes: [0; TASKS],
@@ -89,27 +98,58 @@ pub fn place(s: Setup, clock: u64, held: [Row; HELD], count: usize, job: Job) ->
             return own;
         }
         let release = release_time(job, standing, clock, task);
-        let used = count + own.count;
+        let used = held + own.count;
         let kept = choose(
             s,
             job,
             standing,
             task,
             release,
-            &mut resources,
-            &mut starts,
-            &mut finishes,
+            resources,
+            starts,
+            finishes,
+            nexts,
+            backs,
+            held,
             used,
         );
         if !kept.found {
             return without_rows(task);
         }
         let best = kept.best;
-        own = append(own, best, &mut resources, &mut starts, &mut finishes, used);
+        own = append(own, best, resources, starts, finishes, used);
         let at = (task - 1) as usize;
         standing.machines[at] = kept.machine;
         standing.finishes[at] = best.finish;
         turn += 1;
     }
     own
+}
+
+// A job placed beside the rows whose columns these are.
+pub fn place<'a>(
+    s: Setup,
+    clock: u64,
+    job: Job,
+    resources: &'a mut [u64; SPANS],
+    starts: &'a mut [u64; SPANS],
+    finishes: &'a mut [u64; SPANS],
+    count: usize,
+) -> Placement
+    requires { ⌜ AskPlaceAmong s clock job (now resources) (now starts) (now finishes) count ⌝ }
+    ensures { λ r. ⌜ PlacedAmong s clock job (now (resources .entry)) (now (starts .entry)) (now (finishes .entry)) count r ⌝ }
+{
+    let nexts = nexts_of(resources, count);
+    let backs = backs_of(resources, count);
+    place_tasks(
+        s,
+        clock,
+        job,
+        resources,
+        starts,
+        finishes,
+        &nexts,
+        &backs,
+        count,
+    )
 }

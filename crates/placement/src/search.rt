@@ -1,9 +1,12 @@
 // The search for the least free tick, over columns of spans.
+use crate::KEYS;
+use crate::NODES;
 use crate::SPANS;
 ghost use mathlib.Core.Path.{_≡_};
-ghost use Prim.Native.Nat.{_+_, _^_, _≤_, _<_};
+ghost use Prim.Native.Nat.{ℕ, _+_, _^_, _≤_, _<_};
 ghost use Rattle.rules.specs.Placing.{least-free};
 ghost use Rattle.placement.specs.Columns.{room, spans-of, Searchable};
+ghost use Rattle.placement.specs.Chains.{keys, ChainOn, ChainBack, Chained, AskAlong, AskFollowing, AskPreceding};
 ghost use Rattle.placement.specs.Passes.{beyond, swept, swept-back, AskEntry, NextOf, AfterLastOf};
 
 // Past a span that `len` ticks from `tick` on would meet.
@@ -35,13 +38,13 @@ fn next_of(resources: &[u64; SPANS], count: usize, key: u64, from: usize) -> usi
     i
 }
 
-// The place after the last entry of the resource below a place, or 0.
-fn after_last_of(resources: &[u64; SPANS], key: u64, below: usize) -> usize
-    requires { ⌜ below ≤ room ⌝ }
-    ensures { λ r. ⌜ AfterLastOf key (now (resources .entry)) below r ⌝ }
+// The place after the last entry of the resource below a place, or the floor.
+fn after_last_of(resources: &[u64; SPANS], key: u64, floor: usize, below: usize) -> usize
+    requires { ⌜ (floor ≤ below) × (below ≤ room) ⌝ }
+    ensures { λ r. ⌜ AfterLastOf key (now (resources .entry)) floor below r ⌝ }
 {
     let mut left = below;
-    while 0 < left {
+    while floor < left {
         if resources[left - 1] == key {
             return left;
         }
@@ -50,24 +53,83 @@ fn after_last_of(resources: &[u64; SPANS], key: u64, below: usize) -> usize
     left
 }
 
+// Where a chain goes on: among the held entries, or past its end at the first of the job's own, which are looked through.
+fn chained_or_own(
+    resources: &[u64; SPANS],
+    held: usize,
+    count: usize,
+    key: u64,
+    next: usize,
+) -> usize
+    requires { ⌜ AskEntry count held ⌝ }
+    ensures { λ r. ⌜ ((from : ℕ) → NextOf key (now (resources .entry)) held from next → NextOf key (now (resources .entry)) count from r) ⌝ }
+{
+    if next < held {
+        return next;
+    }
+    next_of(resources, count, key, held)
+}
+
+// The entry of the resource that follows one.
+fn following<'a>(
+    resources: &'a [u64; SPANS],
+    nexts: &'a [usize; NODES],
+    held: usize,
+    count: usize,
+    key: u64,
+    at: usize,
+) -> usize
+    requires { ⌜ AskFollowing key (now resources) held count at × ChainOn (now resources) held (now nexts) ⌝ }
+    ensures { λ r. ⌜ NextOf key (now (resources .entry)) count (at + 1) r ⌝ }
+{
+    if held <= at {
+        return next_of(resources, count, key, at + 1);
+    }
+    chained_or_own(resources, held, count, key, nexts[KEYS + at])
+}
+
+// The place after the entry of the resource that precedes one, or 0.
+fn preceding<'a>(
+    resources: &'a [u64; SPANS],
+    backs: &'a [usize; NODES],
+    held: usize,
+    key: u64,
+    at: usize,
+) -> usize
+    requires { ⌜ AskPreceding key (now resources) held at × ChainBack (now resources) held (now backs) ⌝ }
+    ensures { λ r. ⌜ AfterLastOf key (now (resources .entry)) 0 at r ⌝ }
+{
+    if at < held {
+        return backs[KEYS + at];
+    }
+    let left = after_last_of(resources, key, held, at);
+    if held < left {
+        return left;
+    }
+    backs[key as usize]
+}
+
 // One pass over the spans of the resource: the tick moves past each that it meets.
 fn sweep<'a>(
     resources: &'a [u64; SPANS],
     starts: &'a [u64; SPANS],
     finishes: &'a [u64; SPANS],
+    nexts: &'a [usize; NODES],
+    held: usize,
     count: usize,
     key: u64,
     from: u64,
     len: u64,
 ) -> u64
     requires { ⌜ Searchable (now starts) (now finishes) count from len ⌝ }
+    requires { ⌜ AskAlong key held × (held ≤ count) × ChainOn (now resources) held (now nexts) ⌝ }
     ensures { λ r. ⌜ r ≡ swept len (spans-of key (now (resources .entry)) (now (starts .entry)) (now (finishes .entry)) count) from ⌝ }
 {
     let mut tick = from;
-    let mut i = next_of(resources, count, key, 0);
+    let mut i = chained_or_own(resources, held, count, key, nexts[key as usize]);
     while i < count {
         tick = past(starts[i], finishes[i], tick, len);
-        i = next_of(resources, count, key, i + 1);
+        i = following(resources, nexts, held, count, key, i);
     }
     tick
 }
@@ -77,20 +139,23 @@ fn sweep_back<'a>(
     resources: &'a [u64; SPANS],
     starts: &'a [u64; SPANS],
     finishes: &'a [u64; SPANS],
+    backs: &'a [usize; NODES],
+    held: usize,
     count: usize,
     key: u64,
     from: u64,
     len: u64,
 ) -> u64
     requires { ⌜ Searchable (now starts) (now finishes) count from len ⌝ }
+    requires { ⌜ AskAlong key held × (held ≤ count) × ChainBack (now resources) held (now backs) ⌝ }
     ensures { λ r. ⌜ r ≡ swept-back len (spans-of key (now (resources .entry)) (now (starts .entry)) (now (finishes .entry)) count) from ⌝ }
 {
     let mut tick = from;
-    let mut left = after_last_of(resources, key, count);
+    let mut left = preceding(resources, backs, held, key, count);
     while 0 < left {
         left -= 1;
         tick = past(starts[left], finishes[left], tick, len);
-        left = after_last_of(resources, key, left);
+        left = preceding(resources, backs, held, key, left);
     }
     tick
 }
@@ -100,22 +165,56 @@ pub fn least_free<'a>(
     resources: &'a [u64; SPANS],
     starts: &'a [u64; SPANS],
     finishes: &'a [u64; SPANS],
+    nexts: &'a [usize; NODES],
+    backs: &'a [usize; NODES],
+    held: usize,
     count: usize,
     key: u64,
     from: u64,
     len: u64,
 ) -> u64
     requires { ⌜ Searchable (now starts) (now finishes) count from len ⌝ }
+    requires { ⌜ (key < keys) × Chained (now resources) (now nexts) (now backs) held count ⌝ }
     ensures { λ r. ⌜ r ≡ least-free from len (spans-of key (now (resources .entry)) (now (starts .entry)) (now (finishes .entry)) count) ⌝ }
 {
     let mut tick = from;
-    let mut last = sweep(resources, starts, finishes, count, key, tick, len);
+    let mut last = sweep(
+        resources,
+        starts,
+        finishes,
+        nexts,
+        held,
+        count,
+        key,
+        tick,
+        len,
+    );
     while tick < last {
-        tick = sweep_back(resources, starts, finishes, count, key, last, len);
+        tick = sweep_back(
+            resources,
+            starts,
+            finishes,
+            backs,
+            held,
+            count,
+            key,
+            last,
+            len,
+        );
         if tick == last {
             return tick;
         }
-        last = sweep(resources, starts, finishes, count, key, tick, len);
+        last = sweep(
+            resources,
+            starts,
+            finishes,
+            nexts,
+            held,
+            count,
+            key,
+            tick,
+            len,
+        );
     }
     tick
 }

@@ -1,5 +1,6 @@
 // A trial of one machine: its messages by ascending sender, then the task itself.
 use crate::Attempt;
+use crate::NODES;
 use crate::SPANS;
 use crate::Standing;
 use crate::TRIED;
@@ -19,6 +20,7 @@ ghost use mathlib.Core.List.{List};
 ghost use Prim.Native.Nat.{max};
 ghost use Rattle.rules.specs.declared.Row.{Row};
 ghost use Rattle.rules.specs.Placing.{no-row};
+ghost use Rattle.placement.specs.Chains.{Chained};
 ghost use Rattle.placement.specs.Trials.{AskInput, InputIs, AskInputs, InputsAre, AskAttempt, AttemptIs};
 
 // The rows that the messages of a trial take, how many, the last arrival, and their cost.
@@ -66,14 +68,29 @@ fn try_message<'a>(
     resources: &'a [u64; SPANS],
     starts: &'a [u64; SPANS],
     finishes: &'a [u64; SPANS],
+    nexts: &'a [usize; NODES],
+    backs: &'a [usize; NODES],
+    held: usize,
     count: usize,
 ) -> Row
     requires { ⌜ AskInput s msg a b done (now starts) (now finishes) count ⌝ }
+    requires { ⌜ Chained (now resources) (now nexts) (now backs) held count ⌝ }
     ensures { λ r. ⌜ InputIs s job msg a b done (now (resources .entry)) (now (starts .entry)) (now (finishes .entry)) count r ⌝ }
 {
     let len = transfer_of(s, msg, a, b);
     let key = link_key(a, b);
-    let start = least_free(resources, starts, finishes, count, key, done, len);
+    let start = least_free(
+        resources,
+        starts,
+        finishes,
+        nexts,
+        backs,
+        held,
+        count,
+        key,
+        done,
+        len,
+    );
     message_row(s, job, msg, a, b, start)
 }
 
@@ -88,9 +105,13 @@ fn try_messages<'a>(
     resources: &'a mut [u64; SPANS],
     starts: &'a mut [u64; SPANS],
     finishes: &'a mut [u64; SPANS],
+    nexts: &'a [usize; NODES],
+    backs: &'a [usize; NODES],
+    held: usize,
     used: usize,
 ) -> Inputs
     requires { ⌜ AskInputs s job (standing .machines) (standing .finishes) task machine release (now resources) (now starts) (now finishes) used ⌝ }
+    requires { ⌜ Chained (now resources) (now nexts) (now backs) held used ⌝ }
     ensures { λ r. ⌜ InputsAre s job (standing .machines) (standing .finishes) task machine release (now (resources .entry)) (now (starts .entry)) (now (finishes .entry)) used (now (resources .exit)) (now (starts .exit)) (now (finishes .exit)) (r .rows) (r .count) (r .arrived) (r .cost) ⌝ }
 {
     let mut rows = [blank(); TRIED];
@@ -126,6 +147,9 @@ fn try_messages<'a>(
             resources,
             starts,
             finishes,
+            nexts,
+            backs,
+            held,
             used + count,
         );
         put(row, used + count, resources, starts, finishes);
@@ -153,9 +177,13 @@ pub fn attempt<'a>(
     resources: &'a mut [u64; SPANS],
     starts: &'a mut [u64; SPANS],
     finishes: &'a mut [u64; SPANS],
+    nexts: &'a [usize; NODES],
+    backs: &'a [usize; NODES],
+    held: usize,
     used: usize,
 ) -> Attempt
     requires { ⌜ AskAttempt s job (standing .machines) (standing .finishes) task machine release (now resources) (now starts) (now finishes) used ⌝ }
+    requires { ⌜ Chained (now resources) (now nexts) (now backs) held used ⌝ }
     ensures { λ r. ⌜ AttemptIs s job (standing .machines) (standing .finishes) task machine release (now (resources .entry)) (now (starts .entry)) (now (finishes .entry)) used (now (resources .exit)) (now (starts .exit)) (now (finishes .exit)) r ⌝ }
 {
     let found = try_messages(
@@ -168,6 +196,9 @@ pub fn attempt<'a>(
         resources,
         starts,
         finishes,
+        nexts,
+        backs,
+        held,
         used,
     );
     let at = (task - 1) as usize;
@@ -178,6 +209,9 @@ pub fn attempt<'a>(
         resources,
         starts,
         finishes,
+        nexts,
+        backs,
+        held,
         used,
         machine,
         found.arrived,

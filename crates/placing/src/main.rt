@@ -13,6 +13,9 @@ use listing::heading;
 use listing::print_placement;
 use placement::HELD;
 use placement::SPANS;
+use placement::chains::backs_of;
+use placement::chains::nexts_of;
+use placement::columns::fill;
 use placement::place::place;
 use placement::search::least_free;
 use placement::trial::blank;
@@ -50,7 +53,28 @@ fn show(name: &[u8], count: usize, job: Job)
     let mut held = [blank(); HELD];
     held[0] = held_row(1, 7, 1, 5, 40);
     held[1] = held_row(2, 6, 15, 20, 20);
-    print_placement(place(default_setup(), 0, held, count, job));
+    let mut jobs = [0u64; HELD];
+    let mut resources = [0u64; SPANS];
+    let mut starts = [0u64; SPANS];
+    let mut finishes = [0u64; SPANS];
+    fill(
+        held,
+        count,
+        &mut jobs,
+        &mut resources,
+        &mut starts,
+        &mut finishes,
+    );
+    let found = place(
+        default_setup(),
+        0,
+        job,
+        &mut resources,
+        &mut starts,
+        &mut finishes,
+        count,
+    );
+    print_placement(found);
 }
 
 // The least tick from 0 on for `len` ticks on a machine with rows 1 to 5 and 9 to 12.
@@ -67,9 +91,22 @@ fn show_least(name: &[u8], len: u64)
     resources[1] = 1;
     starts[1] = 9;
     finishes[1] = 12;
+    let nexts = nexts_of(&resources, 2);
+    let backs = backs_of(&resources, 2);
     figure(
         b"start=",
-        least_free(&resources, &starts, &finishes, 2, 1, 0, len),
+        least_free(
+            &resources,
+            &starts,
+            &finishes,
+            &nexts,
+            &backs,
+            2,
+            2,
+            1,
+            0,
+            len,
+        ),
     );
 }
 

@@ -16,14 +16,15 @@ use Rattle.rules.specs.declared.Task.{Task}
 use Rattle.rules.specs.declared.Job.{Job}
 use Rattle.rules.specs.declared.Setup.{Setup}
 use Rattle.rules.specs.Sequences.{any-of, keep, foremost}
-use Rattle.rules.specs.Words.{most-tasks, most-messages, largest-time, horizon, machines, task-numbers, task-of, run-time}
+use Rattle.rules.specs.Words.{most-tasks, most-messages, largest-time, horizon, machines, task-numbers, no-task, task-of, run-time}
 use Rattle.rules.specs.Placing.{no-row}
 use Rattle.rules.specs.Refusals.{outside, miscounted, task-out-of-range, out-of-range, infeasible, first-infeasible}
 use Rattle.rules.specs.Laws.{IsTask}
 use Rattle.rules.proofs.Sequences.{by-test, clash, or-false, any-mem, any-none, any-append, keep-mem, mem-keep, getD-mem, mem-map, map-mem, mem-numbers, numbers-mem}
 use Rattle.rules.proofs.Choice.{precedes-false, foremost-mem, foremost-first, foremost-empty, task-mem, mem-task}
 use Rattle.rules.proofs.Order.{in-between}
-use Rattle.reservation.specs.Tests.{AskFeasible, AskFeasibleTask, named}
+use Rattle.placement.proofs.Tasks.{task-at}
+use Rattle.reservation.specs.Tests.{AskFeasible, AskTimes, TestOf, named}
 
 -- Rows, one after the other.
 
@@ -94,9 +95,9 @@ module _ (s : Setup) (clock : ℕ) (j : Job) (t : ℕ) where
       let listed = mem-numbers 1 (s .table .machines) (made .1) in
       (made .0 - 1, omega arith, made .2, ltb-true 0 run (kept .1))
 
-  pub late-infeasible : {m : ℕ} → AllLate (s .table .machines) clock (task-of j t) m → s .table .machines ≤ m → true ≡ infeasible s clock j t
+  none-in-time : {m : ℕ} → AllLate (s .table .machines) clock (task-of j t) m → s .table .machines ≤ m → true ≡ infeasible s clock j t
   unfolding infeasible
-  late-infeasible {m} sofar all = go (foremost (λ run. run ∷ []) runs) refl
+  none-in-time {m} sofar all = go (foremost (λ run. run ∷ []) runs) refl
     where
       go :
           (o : Option ℕ) → foremost (λ run. run ∷ []) runs ≡ o →
@@ -116,10 +117,10 @@ module _ (s : Setup) (clock : ℕ) (j : Job) (t : ℕ) where
     own-machine = numbers-mem 1 (s .table .machines) (m + 1) (omega arith) (omega arith)
 
     -- one machine that ends in time is enough, since the least run time is no longer than its own
-    pub in-time-feasible :
+    one-in-time :
         (getD (task-of j t .runs) m 0 ≡ 0 → ⊥) → clock + getD (task-of j t .runs) m 0 ≤ task-of j t .deadline → false ≡ infeasible s clock j t
     unfolding infeasible
-    in-time-feasible able in-time = go (foremost (λ run. run ∷ []) runs) refl
+    one-in-time able in-time = go (foremost (λ run. run ∷ []) runs) refl
       where
         own : List·Memᴰ (run-time j t (m + 1)) runs
         own = keep-mem (ltb 0) (mem-map (run-time j t) own-machine) (rw own-run (lt-ltb 0 (getD (task-of j t .runs) m 0) (omega (arith, able))))
@@ -134,18 +135,35 @@ module _ (s : Setup) (clock : ℕ) (j : Job) (t : ℕ) where
             sym (le-ltb (task-of j t .deadline) (clock + run) (omega arith))
 
     -- its run time is in range, since test 3 passes the job
-    pub run-at-most : AskFeasibleTask s clock j t → getD (task-of j t .runs) m 0 ≤ largest-time
+    run-at-most : AskFeasible s clock j → IsTask j t → getD (task-of j t .runs) m 0 ≤ largest-time
     unfolding out-of-range task-out-of-range
-    run-at-most ask =
-        let job = or-false (ltb largest-time (j .scheduling)) _ (ask .feasible .in-range) in
-        let task = any-none (task-out-of-range s j) (job .1) (task-mem j t (ask .listed)) in
+    run-at-most ask listed =
+        let job = or-false (ltb largest-time (j .scheduling)) _ (ask .in-range) in
+        let task = any-none (task-out-of-range s j) (job .1) (task-mem j t listed) in
         let times = or-false (outside 1 horizon (task-of j t .deadline)) _ task .1 in
         let own = or-false (ltb largest-time (task-of j t .dispatch)) _ times .1 in
         let most = ltb-false largest-time (run-time j t (m + 1)) (any-none (λ k. ltb largest-time (run-time j t k)) own own-machine) in
         let same = own-run in
         omega arith
 
+module _ (s : Setup) (clock : ℕ) {its : Task} where
+  pub late-infeasible : {m : ℕ} → AllLate (s .table .machines) clock its m → s .table .machines ≤ m → TestOf (infeasible s clock) its true
+  late-infeasible sofar all j t same = none-in-time s clock j t (rw same sofar) all
+
+  pub in-time-feasible :
+      {m : ℕ} → m < s .table .machines → (getD (its .runs) m 0 ≡ 0 → ⊥) → clock + getD (its .runs) m 0 ≤ its .deadline →
+      TestOf (infeasible s clock) its false
+  in-time-feasible more able in-time j t same = one-in-time s clock j t more (rw same able) (rw same in-time)
+
 -- The tasks of a job, one after the other.
+
+-- what the test of the next task asks
+pub times-asked : {s : Setup} {clock : ℕ} {j : Job} {t : ℕ} → AskFeasible s clock j → t < j .taskcount → AskTimes s clock (getD (j .tasks) t no-task)
+times-asked {s} {clock} {j} {t} ask more = record {
+  room = ask .figures .room;
+  clock-at-most = ask .clock-at-most;
+  runs = λ m below. rw (← task-at j t) (run-at-most s clock j (t + 1) below ask (record { first = omega arith; last = omega arith }));
+}
 
 -- none of the first t tasks is infeasible
 pub record NoneInfeasible (s : Setup) (clock : ℕ) (j : Job) (t : ℕ) : Type 0 where
@@ -184,12 +202,15 @@ module _ {s : Setup} {clock : ℕ} {j : Job} {t : ℕ} (sofar : NoneInfeasible s
       go none f = refl
       go (some u) f = let later = comes-later (foremost-mem _ _ f) in absurd (omega arith)
 
-  module _ (more : t < j .taskcount) where
-    pub feasible-more : infeasible s clock j (t + 1) ≡ false → NoneInfeasible s clock j (t + 1)
-    feasible-more e = record { within = omega arith; feasible = below-more _ t (sofar .feasible) e }
+  module _ (more : t < j .taskcount) {r : Bool} (known : TestOf (infeasible s clock) (getD (j .tasks) t no-task) r) where
+    of-next : infeasible s clock j (t + 1) ≡ r
+    of-next = sym (known j (t + 1) (task-at j t))
+
+    pub feasible-more : r ≡ false → NoneInfeasible s clock j (t + 1)
+    feasible-more e = record { within = omega arith; feasible = below-more _ t (sofar .feasible) (of-next ∙ e) }
 
     -- the first found is the lowest, since those passed are feasible
-    pub first-found : infeasible s clock j (t + 1) ≡ true → named (t + 1) ≡ first-infeasible s clock j
+    pub first-found : r ≡ true → named (t + 1) ≡ first-infeasible s clock j
     unfolding first-infeasible
     first-found e = named-more ∙ go (foremost (λ u. u ∷ []) (infeasible-tasks s clock j)) refl
       where
@@ -197,7 +218,7 @@ module _ {s : Setup} {clock : ℕ} {j : Job} {t : ℕ} (sofar : NoneInfeasible s
         named-more = rw add-one refl
 
         own : List·Memᴰ (t + 1) (infeasible-tasks s clock j)
-        own = keep-mem (infeasible s clock j) (numbers-mem 1 (j .taskcount) (t + 1) (omega arith) (omega arith)) e
+        own = keep-mem (infeasible s clock j) (numbers-mem 1 (j .taskcount) (t + 1) (omega arith) (omega arith)) (of-next ∙ e)
 
         go : (o : Option ℕ) → foremost (λ u. u ∷ []) (infeasible-tasks s clock j) ≡ o → some (t + 1) ≡ o
         go none f = absurd (foremost-empty _ f own)

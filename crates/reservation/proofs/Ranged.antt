@@ -11,15 +11,16 @@ use lib.Seq.{take-suc, getD-take, length-take-le}
 use borrow.Author.Tests.{ltb-false, lt-ltb, le-ltb}
 use Rattle.rules.specs.declared.Job.{Job}
 use Rattle.rules.specs.declared.Message.{Message}
+use Rattle.rules.specs.declared.Task.{Task}
 use Rattle.rules.specs.declared.Setup.{Setup}
 use Rattle.rules.specs.Sequences.{any-of, numbers, precedes}
-use Rattle.rules.specs.Words.{largest-time, horizon, most-tasks, most-messages, messages-of, task-of}
+use Rattle.rules.specs.Words.{largest-time, horizon, most-tasks, most-messages, messages-of, no-task}
 use Rattle.rules.specs.Refusals.{outside, miscounted, task-out-of-range, out-of-range, message-out-of-range, listing, ascending, bad-messages}
 use Rattle.rules.proofs.Sequences.{by-test, clash, or-left, or-right, or-false, and-true, and-both, any-append, any-mem, numbers-mem, getD-mem}
 use Rattle.rules.proofs.Order.{in-between}
 use Rattle.placement.proofs.Foremost.{numbers-more, lower-precedes}
-use Rattle.placement.proofs.Tasks.{message-at}
-use Rattle.reservation.specs.Tests.{AskFigures, AskFigure}
+use Rattle.placement.proofs.Tasks.{message-at, task-at}
+use Rattle.reservation.specs.Tests.{AskFigures, TestOf}
 
 -- Ranges.
 
@@ -61,7 +62,7 @@ module _ {p : ℕ → Bool} {most : ℕ} where
     none-of-all all = let same : most ≡ n = omega arith in rw same (sofar .none)
 
     module _ (more : n < most) where
-      pub none-more : p (n + 1) ≡ false → NoneOf p most (n + 1)
+      none-more : p (n + 1) ≡ false → NoneOf p most (n + 1)
       none-more e = record { within = omega arith; none = rw (one-more, sofar .none, e) refl }
         where
           one-more : any-of p (numbers 1 (n + 1)) ≡ any-of p (numbers 1 n) || any-of p ((n + 1) ∷ [])
@@ -81,32 +82,32 @@ too-long runs m = ltb largest-time (getD runs (m - 1) 0)
 too-long-at : (runs : List ℕ) (m : ℕ) → too-long runs (m + 1) ≡ ltb largest-time (getD runs m 0)
 too-long-at runs m = let same : m + 1 - 1 ≡ m = omega arith in ap (λ i. ltb largest-time (getD runs i 0)) same
 
-module _ {s : Setup} {j : Job} {t : ℕ} (ask : AskFigure s j t) where
-  pub deadline-outside : outside 1 horizon (task-of j t .deadline) ≡ true → true ≡ task-out-of-range s j t
-  unfolding task-out-of-range
-  deadline-outside e = rw e refl
+pub run-inside :
+    (runs : List ℕ) {most m : ℕ} → NoneOf (too-long runs) most m → m < most → getD runs m 0 ≤ largest-time → NoneOf (too-long runs) most (m + 1)
+run-inside runs {m = m} sofar more h = none-more sofar more (too-long-at runs m ∙ le-ltb largest-time (getD runs m 0) h)
 
-  pub dispatch-outside : largest-time < task-of j t .dispatch → true ≡ task-out-of-range s j t
+module _ (s : Setup) (its : Task) where
+  pub deadline-outside : outside 1 horizon (its .deadline) ≡ true → TestOf (task-out-of-range s) its true
   unfolding task-out-of-range
-  dispatch-outside h = sym (or-right (outside 1 horizon (task-of j t .deadline)) _ (or-left _ _ (lt-ltb _ _ h)))
+  deadline-outside e j t same = rw (same, e) refl
 
-  module _ {m : ℕ} (sofar : NoneOf (too-long (task-of j t .runs)) (s .table .machines) m) where
+  pub dispatch-outside : largest-time < its .dispatch → TestOf (task-out-of-range s) its true
+  unfolding task-out-of-range
+  dispatch-outside h j t same = rw same (sym (or-right (outside 1 horizon (its .deadline)) _ (or-left _ _ (lt-ltb _ _ h))))
+
+  module _ {m : ℕ} (sofar : NoneOf (too-long (its .runs)) (s .table .machines) m) where
     pub figures-inside :
-        s .table .machines ≤ m → 1 ≤ task-of j t .deadline → task-of j t .deadline ≤ horizon → task-of j t .dispatch ≤ largest-time →
-        false ≡ task-out-of-range s j t
+        s .table .machines ≤ m → 1 ≤ its .deadline → its .deadline ≤ horizon → its .dispatch ≤ largest-time →
+        TestOf (task-out-of-range s) its false
     unfolding task-out-of-range
-    figures-inside all least most dispatch =
-        rw (inside 1 horizon (task-of j t .deadline) least most, le-ltb largest-time (task-of j t .dispatch) dispatch, none-of-all sofar all) refl
+    figures-inside all least most dispatch j t same =
+        rw (same, inside 1 horizon (its .deadline) least most, le-ltb largest-time (its .dispatch) dispatch, none-of-all sofar all) refl
 
-    module _ (more : m < s .table .machines) where
-      pub run-inside : getD (task-of j t .runs) m 0 ≤ largest-time → NoneOf (too-long (task-of j t .runs)) (s .table .machines) (m + 1)
-      run-inside h = none-more sofar more (too-long-at (task-of j t .runs) m ∙ le-ltb largest-time (getD (task-of j t .runs) m 0) h)
-
-      pub run-outside : largest-time < getD (task-of j t .runs) m 0 → true ≡ task-out-of-range s j t
-      unfolding task-out-of-range
-      run-outside h =
-          let found = some-found sofar more (too-long-at (task-of j t .runs) m ∙ lt-ltb largest-time (getD (task-of j t .runs) m 0) h) in
-          sym (or-right (outside 1 horizon (task-of j t .deadline)) _ (or-right (ltb largest-time (task-of j t .dispatch)) _ found))
+    pub run-outside : m < s .table .machines → largest-time < getD (its .runs) m 0 → TestOf (task-out-of-range s) its true
+    unfolding task-out-of-range
+    run-outside more h j t same =
+        let found = some-found sofar more (too-long-at (its .runs) m ∙ lt-ltb largest-time (getD (its .runs) m 0) h) in
+        rw same (sym (or-right (outside 1 horizon (its .deadline)) _ (or-right (ltb largest-time (its .dispatch)) _ found)))
 
 -- A job's figures: task by task.
 
@@ -120,9 +121,16 @@ module _ {s : Setup} {j : Job} (ask : AskFigures s j) where
     unfolding out-of-range
     tasks-inside all h = rw (le-ltb largest-time (j .scheduling) h, none-of-all sofar all) refl
 
-    pub task-outside : t < j .taskcount → task-out-of-range s j (t + 1) ≡ true → true ≡ out-of-range s j
-    unfolding out-of-range
-    task-outside more e = sym (or-right (ltb largest-time (j .scheduling)) _ (some-found sofar more e))
+    module _ (more : t < j .taskcount) {r : Bool} (known : TestOf (task-out-of-range s) (getD (j .tasks) t no-task) r) where
+      of-next : task-out-of-range s j (t + 1) ≡ r
+      of-next = sym (known j (t + 1) (task-at j t))
+
+      pub task-inside : r ≡ false → NoneOf (task-out-of-range s j) (j .taskcount) (t + 1)
+      task-inside e = none-more sofar more (of-next ∙ e)
+
+      pub task-outside : r ≡ true → true ≡ out-of-range s j
+      unfolding out-of-range
+      task-outside e = sym (or-right (ltb largest-time (j .scheduling)) _ (some-found sofar more (of-next ∙ e)))
 
 -- Messages that ascend: message by message.
 

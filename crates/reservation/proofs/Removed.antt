@@ -1,44 +1,65 @@
 -- Removing rows: those that stay, one after the other, and what is left of the total.
-use mathlib.Core.Path.{_≡_, refl, sym, ap, ap₂, _∙_, subst}
+use mathlib.Core.Path.{_≡_, refl, sym, ap, ap₂, _∙_}
 use mathlib.Core.Bool.{Bool, true, false, not}
-use mathlib.Core.List.{List, [], _∷_, _++_, append-nil, append-assoc}
+use mathlib.Core.List.{List, [], _∷_, _++_, append-nil}
 use Prim.Native.Nat.{ℕ, suc, _+_, _-_, _≤_, _<_}
 use native.Mathlib.Omega.{arith}
-use lib.ListN.{length, getD, take, drop, set, replicate, length-set, length-replicate, getD-replicate, length-take}
+use lib.ListN.{length, getD, take, drop, set, replicate, length-set, length-replicate, getD-replicate}
 use lib.Seq.{take-suc, take-suc-set, drop-cons, drop-length, getD-take, getD-set-same, getD-set-other, length-take-le}
 use Rattle.rules.specs.declared.Row.{Row}
-use Rattle.rules.specs.Sequences.{keep, cons-if, sum-of}
-use Rattle.rules.specs.Words.{row-limit}
+use Rattle.rules.specs.Sequences.{keep, cons-if}
+use Rattle.rules.specs.Words.{of-job, row-limit}
 use Rattle.rules.specs.Placing.{no-row, costs}
-use Rattle.rules.specs.Withdrawing.{remove}
+use Rattle.rules.specs.Withdrawing.{remove, ended}
 use lib.Dec.{eqb}
 use borrow.Author.Tests.{eqb-true, eqb-false}
 use Rattle.rules.proofs.Sequences.{by-test, keep-append, sum-append, sum-split}
 use Rattle.reservation.specs.declared.Register.{Register}
-use Rattle.reservation.specs.Registers.{state-of, register-of, Valid}
-use Rattle.reservation.specs.Calls.{MaskOf}
+use Rattle.reservation.specs.Registers.{Valid}
+use Rattle.placement.proofs.Made.{Made, made-none, made-more}
+use Rattle.reservation.specs.Calls.{WithBoth, EndedIs, MaskOf, RowsEnded, Removes}
 use Rattle.reservation.proofs.Values.{blank-rest}
 
--- A figure or a test of each row, entry by entry: the first i entries are made.
-pub record Made {A : Type 0} (d : A) (of : Row → A) (rows : List Row) (column : List A) (i : ℕ) : Type 0 where
-  pub long : length column ≡ row-limit
-  pub is : (k : ℕ) → k < i → getD column k d ≡ of (getD rows k no-row)
+module _ {of : Row → Bool} {rows : List Row} {mask : List Bool} {count i : ℕ} where
+  pub made-mask : Made false of rows mask i → count ≤ i → MaskOf of rows count mask
+  made-mask m all = record { long = m .long; is = λ k h. m .is k (omega arith) }
 
-pub made-none : {A : Type 0} (d : A) (of : Row → A) (rows : List Row) (column : List A) → length column ≡ row-limit → Made d of rows column 0
-made-none d of rows column long = record { long = long; is = λ k h. absurd (omega arith) }
+-- The rows of jobs that have ended: the first i entries are made, and the answer for the job asked last is at hand.
+pub record Ending (jobs finishes : List ℕ) (count tick : ℕ) (mask : List Bool) (asked : ℕ) (gone : Bool) (i : ℕ) : Type 0 where
+  pub known : EndedIs jobs finishes count asked tick gone
+  pub made :
+      WithBoth
+      (λ row. row .finish)
+      jobs
+      finishes
+      count
+      (λ rows. Made false (λ row. ended tick (keep (of-job (row .job)) (take count rows))) rows mask i)
 
-pub made-more :
-    {A : Type 0} {d : A} {of : Row → A} {rows : List Row} {column : List A} {i : ℕ} → Made d of rows column i → i < row-limit → (x : A) →
-    x ≡ of (getD rows i no-row) → Made d of rows (set column i x) (suc i)
-made-more {d = d} {of} {rows} {column} {i} m h x e = record {
-  long = length-set column i x ∙ m .long;
-  is =
-      λ k b.
-      by-test
-      (eqb k i)
-      (λ q. let same = eqb-true k i q in rw (same, getD-set-same column i x d (let l = m .long in omega arith)) e)
-      (λ q. let other = eqb-false k i q in getD-set-other column i k x d other ∙ m .is k (omega (arith, other)));
-}
+-- an answer serves a row if it is the answer for the row's job
+abbrev pub Serves : (jobs finishes : List ℕ) (count tick i asked : ℕ) → Bool → Type 0
+Serves jobs finishes count tick i asked gone = (getD jobs i 0 ≡ asked) × EndedIs jobs finishes count asked tick gone
+
+module _ {jobs finishes : List ℕ} {count tick asked : ℕ} {gone : Bool} where
+  pub ending-none : (mask : List Bool) → length mask ≡ row-limit → EndedIs jobs finishes count asked tick gone → Ending jobs finishes count tick mask asked gone 0
+  ending-none mask long known = record { known = known; made = λ rows a l b. made-none false _ rows mask long }
+
+  module _ {mask : List Bool} {i : ℕ} (g : Ending jobs finishes count tick mask asked gone i) where
+    pub ending-more :
+        count ≤ row-limit → i < count → {job : ℕ} {out : Bool} → Serves jobs finishes count tick i job out →
+        Ending jobs finishes count tick (set mask i out) job out (suc i)
+    ending-more few more {job} {out} serves = record {
+      known = serves .1;
+      made =
+          λ rows a l b.
+          made-more
+          (g .made rows a l b)
+          (omega arith)
+          out
+          (serves .1 rows a l b ∙ ap (λ n. ended tick (keep (of-job n) (take count rows))) (sym (serves .0) ∙ a .is i more));
+    }
+
+    pub ending-all : count ≤ i → RowsEnded jobs finishes count tick mask
+    ending-all all = λ rows a l b. made-mask (g .made rows a l b) all
 
 -- The rows that stay.
 
@@ -125,10 +146,10 @@ module _ {r : Register} (valid : Valid r) {mask : List Bool} where
         }
 
   pub removing-all :
-      {rows : List Row} {kept total i : ℕ} → Removing r mask rows kept total i → r .count ≤ i → (leaves : Row → Bool) → MaskOf leaves (r .rows) (r .count) mask →
-      record { setup = r .setup; clock = r .clock; count = kept; rows = rows; total = total } ≡ register-of (r .setup) (remove leaves (state-of r))
+      {rows : List Row} {kept total i : ℕ} → Removing r mask rows kept total i → r .count ≤ i → (clock : ℕ) →
+      Removes r clock mask (record { setup = r .setup; clock = clock; count = kept; rows = rows; total = total })
   unfolding remove
-  removing-all {rows} {kept} {total} {i} g h leaves m =
+  removing-all {rows} {kept} {total} {i} g h clock = λ leaves m.
       let within = g .within in
       let k = g .kept-at-most in
       let c = valid .count-at-most in
@@ -149,4 +170,4 @@ module _ {r : Register} (valid : Valid r) {mask : List Bool} where
       let both = sum-split (λ x. x .cost) leaves (take (r .count) (r .rows)) in
       let was = valid .bounded .total in
       omega arith in
-      λ x. record { setup = r .setup; clock = r .clock; count = count-is x; rows = rows-are x; total = total-is x }
+      λ x. record { setup = r .setup; clock = clock; count = count-is x; rows = rows-are x; total = total-is x }

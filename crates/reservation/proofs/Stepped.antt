@@ -1,14 +1,14 @@
 -- A call on a valid register, refused or accepted, as a step of the rules.
 use mathlib.Core.Path.{_≡_, refl, sym, ap, ap₂, _∙_, subst}
 use mathlib.Core.Bool.{Bool, true, false, not}
-use mathlib.Core.List.{List, _++_, Memᴰ·append-right}
+use mathlib.Core.List.{List, _++_, append-nil, Memᴰ·append-right}
 use mathlib.Core.Option.{Option, none, some}
 use Prim.Native.Nat.{ℕ, zero, suc, _+_, _-_, _≤_, _<_}
 use native.Mathlib.Omega.{arith}
-use lib.ListN.{length, take, replicate, length-append}
+use lib.ListN.{length, take, replicate, length-append, length-replicate, getD-replicate}
 use lib.Seq.{length-take-le}
-use lib.Dec.{ltb, leb}
-use borrow.Author.Tests.{eq-eqb, ne-eqb, lt-ltb, le-ltb}
+use lib.Dec.{ltb, leb, eqb}
+use borrow.Author.Tests.{eqb-true, eqb-false, ltb-true, ltb-false, eq-eqb, ne-eqb, lt-ltb, le-ltb}
 use Rattle.rules.specs.declared.Row.{Row}
 use Rattle.rules.specs.declared.Job.{Job}
 use Rattle.rules.specs.declared.Answer.{Answer}
@@ -20,15 +20,18 @@ use Rattle.rules.specs.Withdrawing.{admit, withdraw, advance, remove, ended}
 use Rattle.rules.specs.Refusals.{refuse-if, outside, refusal, accepted, miscounted, out-of-range, bad-messages, first-infeasible, placing, found, submit-tests, submit-answer, withdraw-tests, withdraw-answer, clock-tests, clock-answer, Call, submits, withdraws, moves, settle, step}
 use Rattle.rules.specs.Demands.{InRange, passes, end}
 use Rattle.rules.specs.Bounds.{Bounded}
+use Rattle.rules.proofs.Sequences.{keep-all, keep-none}
 use Rattle.rules.proofs.Struck.{step-still}
 use Rattle.rules.proofs.Bounds.{bounded-step}
-use Rattle.placement.specs.Placements.{placing-of, AskPlace, PlacementIs}
+use Rattle.rules.proofs.Sequences.{by-test}
+use Rattle.placement.specs.Placements.{most-own, none-placed, placing-of, AskPlace, PlacementIs}
 use Rattle.placement.specs.declared.place.Placement.{Placement}
 use Rattle.placement.proofs.Placed.{costs-at-most, next-some, next-none}
 use Rattle.reservation.specs.declared.Register.{Register}
 use Rattle.reservation.specs.declared.Reply.{Reply}
 use Rattle.reservation.specs.Registers.{state-of, register-of, Valid}
-use Rattle.reservation.specs.Calls.{Steps, EarlyIs, AskAdmit, Admits}
+use Rattle.reservation.specs.declared.submission.Verdict.{Verdict}
+use Rattle.reservation.specs.Calls.{Steps, EarlyIs, AskAdmit, Admits, refuses, Settles, Judges, MaskOf, RemovalIs, no-removal}
 use Rattle.reservation.specs.Tests.{named}
 use Rattle.reservation.proofs.Values.{register-same, register-valid, blank-rest}
 use Rattle.reservation.proofs.Answers.{First, here, later, first-answers, judged-first, judged-none, answer-6, answer-7, answer-8, answer-0, admitted-left}
@@ -56,58 +59,73 @@ module _ {r : Register} (valid : Valid r) (c : Call) (a : Answer) (is : step (r 
         (bounded-step (r .setup) (valid .sound) (state-of r) c (valid .bounded)));
   }
 
--- Refusals 1 to 5.
+-- Refusals 1 to 4.
 
-module _ {r : Register} {j : Job} where
-  abbrev first-is : (n : ℕ) → First n 0 (submit-tests (r .setup) (view (state-of r)) j) → (n ≡ 0 → ⊥) → n ≤ 5 → EarlyIs r j n
-  first-is n f ne few = record {
-    refused = λ _. first-answers (r .setup) (view (state-of r)) j f;
-    refusal-number = few;
-    in-range = λ z. absurd (ne z);
-    not-held = λ z. absurd (ne z);
-  }
+module _ {s : Setup} {j : Job} where
+  abbrev first-is : (n : ℕ) → ((v : View) → First n 0 (submit-tests s v j)) → (n ≡ 0 → ⊥) → EarlyIs s j n
+  first-is n f ne = record { refused = λ _ v. first-answers s v j (f v); in-range = λ z. absurd (ne z) }
 
-  pub early-1 : outside 1 largest-number (j .number) ≡ true → EarlyIs r j 1
+  pub early-1 : outside 1 largest-number (j .number) ≡ true → EarlyIs s j 1
   unfolding submit-tests
-  early-1 a = first-is 1 (here refl (ap refuse-if a)) (λ z. omega arith) (omega arith)
+  early-1 a = first-is 1 (λ v. here refl (ap refuse-if a)) (λ z. omega arith)
 
   module _ (a : outside 1 largest-number (j .number) ≡ false) where
-    pub early-2 : miscounted j ≡ true → EarlyIs r j 2
+    pub early-2 : miscounted j ≡ true → EarlyIs s j 2
     unfolding submit-tests
-    early-2 b = first-is 2 (later (ap refuse-if a) (here refl (ap refuse-if b))) (λ z. omega arith) (omega arith)
+    early-2 b = first-is 2 (λ v. later (ap refuse-if a) (here refl (ap refuse-if b))) (λ z. omega arith)
 
     module _ (b : miscounted j ≡ false) where
-      pub early-3 : out-of-range (r .setup) j ≡ true → EarlyIs r j 3
+      pub early-3 : out-of-range s j ≡ true → EarlyIs s j 3
       unfolding submit-tests
-      early-3 c = first-is 3 (later (ap refuse-if a) (later (ap refuse-if b) (here refl (ap refuse-if c)))) (λ z. omega arith) (omega arith)
+      early-3 c = first-is 3 (λ v. later (ap refuse-if a) (later (ap refuse-if b) (here refl (ap refuse-if c)))) (λ z. omega arith)
 
-      module _ (c : out-of-range (r .setup) j ≡ false) where
-        pub early-4 : bad-messages j ≡ true → EarlyIs r j 4
+      module _ (c : out-of-range s j ≡ false) where
+        pub early-4 : bad-messages j ≡ true → EarlyIs s j 4
         unfolding submit-tests
         early-4 d =
             first-is
             4
-            (later (ap refuse-if a) (later (ap refuse-if b) (later (ap refuse-if c) (here refl (ap refuse-if d)))))
+            (λ v. later (ap refuse-if a) (later (ap refuse-if b) (later (ap refuse-if c) (here refl (ap refuse-if d)))))
             (λ z. omega arith)
-            (omega arith)
 
-        module _ (d : bad-messages j ≡ false) where
-          pub early-5 : view (state-of r) .held (j .number) ≡ true → EarlyIs r j 5
-          unfolding submit-tests
-          early-5 e =
-              first-is
-              5
-              (later (ap refuse-if a) (later (ap refuse-if b) (later (ap refuse-if c) (later (ap refuse-if d) (here refl (ap refuse-if e))))))
-              (λ z. omega arith)
-              (omega arith)
+        pub early-0 : bad-messages j ≡ false → EarlyIs s j 0
+        early-0 d = record { refused = λ ne. absurd (ne refl); in-range = λ _. record { number = a; counts = b; figures = c; messages = d } }
 
-          pub early-0 : view (state-of r) .held (j .number) ≡ false → EarlyIs r j 0
-          early-0 e = record {
-            refused = λ ne. absurd (ne refl);
-            refusal-number = omega arith;
-            in-range = λ _. record { number = a; counts = b; figures = c; messages = d };
-            not-held = λ _. e;
-          }
+-- No rows to admit.
+
+module _ {r : Register} (valid : Valid r) where
+  pub ask-none : AskAdmit r (none-placed 0)
+  unfolding none-placed
+  ask-none = record {
+    valid = valid;
+    found-long = length-replicate most-own no-row;
+    found-at-most = omega arith;
+    fits = let c = valid .count-at-most in omega arith;
+    cost-at-most = omega arith;
+  }
+
+  pub admits-none : {left : Register} → Admits r (none-placed 0) left → left ≡ r
+  unfolding none-placed
+  admits-none {left} ad =
+      let count-is : left .count ≡ r .count = let c = ad .count-is in omega arith in
+      let total-is : left .total ≡ r .total = let t = ad .total-is in omega arith in
+      let few = valid .count-at-most in
+      let kept : take (left .count) (left .rows) ≡ take (r .count) (r .rows) = ad .rows-are ∙ append-nil (take (r .count) (r .rows)) in
+      let rows-are : left .rows ≡ r .rows
+      = blank-rest (left .rows) (left .count) (ad .long) (omega arith) (ad .blank)
+      ∙ ap₂ (λ l k. l ++ replicate (row-limit - k) no-row) kept count-is
+      ∙ sym (blank-rest (r .rows) (r .count) (valid .long) few (valid .blank)) in
+      λ i. record { setup = ad .setup-is i; clock = ad .clock-is i; count = count-is i; rows = rows-are i; total = total-is i }
+
+  -- a refusal admits no rows
+  pub judges-refused :
+      {j : Job} {n t : ℕ} → Steps r (submits j) (record { answer = refusal n t; register = r }) →
+      (v : Verdict) → v ≡ refuses n t → Judges r j v
+  judges-refused {j} {n} {t} st v e =
+      subst
+      (Judges r j)
+      (sym e)
+      (record { ask = ask-none; steps = λ left ad. subst (λ x. Steps r (submits j) (record { answer = refusal n t; register = x })) (sym (admits-none ad)) st })
 
 -- Refusals 6 to 8, and admission.
 
@@ -115,12 +133,36 @@ placed-late : (rows : List Row) (t : ℕ) → (t ≡ 0 → ⊥) → placing-of t
 placed-late rows zero ne = absurd (ne refl)
 placed-late rows (suc t) ne = refl
 
-module _ {r : Register} (valid : Valid r) {j : Job} {n : ℕ} (early : EarlyIs r j n) where
+module _ {r : Register} (valid : Valid r) {j : Job} {n : ℕ} (early : EarlyIs (r .setup) j n) where
   pub submit-early : (n ≡ 0 → ⊥) → Steps r (submits j) (record { answer = refusal n 0; register = r })
   unfolding step settle
-  submit-early ne = refused-steps valid (submits j) (refusal n 0) (early .refused ne) ne
+  submit-early ne = refused-steps valid (submits j) (refusal n 0) (early .refused ne (view (state-of r))) ne
 
-  module _ (z : n ≡ 0) where
+  pub ask-place : n ≡ 0 → AskPlace (r .setup) (r .clock) (r .rows) (r .count) j
+  ask-place z = record {
+    sound = valid .sound;
+    clock-at-most = valid .bounded .clock;
+    count-at-most = valid .count-at-most;
+    rows-in-range = valid .bounded .rows;
+    in-range = early .in-range z;
+  }
+
+  pub submit-5 : n ≡ 0 → view (state-of r) .held (j .number) ≡ true → Steps r (submits j) (record { answer = refusal 5 0; register = r })
+  unfolding step settle submit-tests
+  submit-5 z e =
+      let range = early .in-range z in
+      refused-steps
+      valid
+      (submits j)
+      (refusal 5 0)
+      (first-answers
+      (r .setup)
+      (view (state-of r))
+      j
+      (later (ap refuse-if (range .number)) (later (ap refuse-if (range .counts)) (later (ap refuse-if (range .figures)) (later (ap refuse-if (range .messages)) (here refl (ap refuse-if e)))))))
+      (λ x. omega arith)
+
+  module _ (z : n ≡ 0) (free : view (state-of r) .held (j .number) ≡ false) where
     abbrev s : Setup
     s = r .setup
 
@@ -130,16 +172,7 @@ module _ {r : Register} (valid : Valid r) {j : Job} {n : ℕ} (early : EarlyIs r
     pub submit-6 : (t : ℕ) → named t ≡ first-infeasible s (r .clock) j → (t ≡ 0 → ⊥) → Steps r (submits j) (record { answer = refusal 6 t; register = r })
     unfolding step settle
     submit-6 t e ne =
-        refused-steps valid (submits j) (refusal 6 t) (answer-6 s v j (early .in-range z) (early .not-held z) (next-some t ne e)) (λ x. omega arith)
-
-    pub ask-place : AskPlace s (r .clock) (r .rows) (r .count) j
-    ask-place = record {
-      sound = valid .sound;
-      clock-at-most = valid .bounded .clock;
-      count-at-most = valid .count-at-most;
-      rows-in-range = valid .bounded .rows;
-      in-range = early .in-range z;
-    }
+        refused-steps valid (submits j) (refusal 6 t) (answer-6 s v j (early .in-range z) free (next-some t ne e)) (λ x. omega arith)
 
     module _ {t : ℕ} (feasible : named t ≡ first-infeasible s (r .clock) j) (none-such : t ≡ 0) {found : Placement}
         (is : PlacementIs s (r .clock) (r .rows) (r .count) j found) where
@@ -158,7 +191,7 @@ module _ {r : Register} (valid : Valid r) {j : Job} {n : ℕ} (early : EarlyIs r
           v
           j
           (early .in-range z)
-          (early .not-held z)
+          free
           no-infeasible
           (sym (is .is) ∙ placed-late (take (found .count) (found .rows)) (found .late) ne))
           (λ x. omega arith)
@@ -189,7 +222,7 @@ module _ {r : Register} (valid : Valid r) {j : Job} {n : ℕ} (early : EarlyIs r
             v
             j
             (early .in-range z)
-            (early .not-held z)
+            free
             no-infeasible
             rows
             rows-found
@@ -203,7 +236,7 @@ module _ {r : Register} (valid : Valid r) {j : Job} {n : ℕ} (early : EarlyIs r
           answered : step s (state-of r) (submits j) .answer ≡ admission
           unfolding step settle
           answered =
-              answer-0 s v j (early .in-range z) (early .not-held z) no-infeasible rows rows-found (let a = held-length in let b = found-length in omega arith)
+              answer-0 s v j (early .in-range z) free no-infeasible rows rows-found (let a = held-length in let b = found-length in omega arith)
               ∙ ap₂ (λ c k. record { number = 0; task = 0; cost = c; rows = k }) (sym (is .cost-is)) found-length
 
           left-admits : step s (state-of r) (submits j) .left ≡ admit (state-of r) rows
@@ -235,6 +268,26 @@ module _ {r : Register} (valid : Valid r) {j : Job} {n : ℕ} (early : EarlyIs r
               let whole : left ≡ register-of s (admit (state-of r) rows)
               = λ i. record { setup = ad .setup-is i; clock = ad .clock-is i; count = count-is i; rows = rows-are i; total = total-is i } in
               accepted-steps valid (submits j) admission answered left (whole ∙ ap (register-of s) (sym left-admits))
+
+      -- late, too many rows, or admitted
+      pub judges-settled : (w : Verdict) → Settles (r .count) found w → Judges r j w
+      judges-settled w settles =
+          by-test
+          (eqb (found .late) 0)
+          (λ e.
+          let in-time = eqb-true (found .late) 0 e in
+          by-test
+          (ltb row-limit (r .count + found .count))
+          (λ h. let over = ltb-true row-limit (r .count + found .count) h in judges-refused valid (submit-8 in-time over) w (settles .full in-time over))
+          (λ h.
+          let fits = ltb-false row-limit (r .count + found .count) h in
+          subst
+          (Judges r j)
+          (sym (settles .fits in-time fits))
+          (record { ask = ask-admit in-time fits; steps = λ left ad. submit-0 in-time fits ad })))
+          (λ e.
+          let ne = eqb-false (found .late) 0 e in
+          judges-refused valid (submit-7 ne) w (settles .late ne))
 
 -- Withdrawals and clock moves.
 
@@ -271,48 +324,63 @@ module _ (s : Setup) (st : State) where
   unfolding step settle
   moved-left tick e = rw (ap (λ a. a .number) e) refl
 
+-- nothing changes if no row leaves
+remove-none : (st : State) → remove (λ row. false) st ≡ st
+unfolding remove
+remove-none st =
+    let stay = keep-all (λ row. true) (st .rows) (λ row m. refl) in
+    let none-gone = ap costs (keep-none (λ row. false) (st .rows) (λ row m. refl)) in
+    let total-stays : st .total - costs (keep (λ row. false) (st .rows)) ≡ st .total = omega arith in
+    λ i. record { clock = st .clock; rows = stay i; total = total-stays i }
+
 module _ {r : Register} (valid : Valid r) where
-  pub refused-9 : (n : ℕ) → view (state-of r) .held n ≡ false → Steps r (withdraws n) (record { answer = refusal 9 0; register = r })
-  refused-9 n a = refused-steps valid (withdraws n) (refusal 9 0) (withdraw-9 (r .setup) (state-of r) n a) (λ z. omega arith)
+  -- so a refusal leaves the very same register
+  refusal-removal :
+      (c : Call) (n : ℕ) → step (r .setup) (state-of r) c .answer ≡ refusal n 0 → (n ≡ 0 → ⊥) → RemovalIs r c (no-removal n (r .clock))
+  refusal-removal c n is ne left removes =
+      let nobody : MaskOf (λ row. false) (r .rows) (r .count) (replicate row-limit false)
+      = record {
+        long = length-replicate row-limit false;
+        is = λ i h. getD-replicate row-limit i false false (let few = valid .count-at-most in omega arith);
+      } in
+      let same : left ≡ r = removes (λ row. false) nobody ∙ ap (register-of (r .setup)) (remove-none (state-of r)) ∙ register-same r valid in
+      subst (λ l. Steps r c (record { answer = refusal n 0; register = l })) (sym same) (refused-steps valid c (refusal n 0) is ne)
 
-  pub refused-10 :
-      (n : ℕ) → view (state-of r) .held n ≡ true → any-of (λ row. leb (row .start) (r .clock)) (view (state-of r) .rows-of n) ≡ true →
-      Steps r (withdraws n) (record { answer = refusal 10 0; register = r })
-  refused-10 n a b = refused-steps valid (withdraws n) (refusal 10 0) (withdraw-10 (r .setup) (state-of r) n a b) (λ z. omega arith)
+  module _ (n : ℕ) where
+    pub refused-9 : view (state-of r) .held n ≡ false → RemovalIs r (withdraws n) (no-removal 9 (r .clock))
+    refused-9 a = refusal-removal (withdraws n) 9 (withdraw-9 (r .setup) (state-of r) n a) (λ z. omega arith)
 
-  pub withdrawn :
-      (n : ℕ) → view (state-of r) .held n ≡ true → any-of (λ row. leb (row .start) (r .clock)) (view (state-of r) .rows-of n) ≡ false →
-      {left : Register} → left ≡ register-of (r .setup) (remove (of-job n) (state-of r)) → Steps r (withdraws n) (record { answer = refusal 0 0; register = left })
-  unfolding withdraw
-  withdrawn n a b {left} e =
-      let is = withdraw-0 (r .setup) (state-of r) n a b in
-      accepted-steps valid (withdraws n) (refusal 0 0) is left (e ∙ ap (register-of (r .setup)) (sym (withdrawn-left (r .setup) (state-of r) n is)))
+    module _ (a : view (state-of r) .held n ≡ true) where
+      pub refused-10 : any-of (λ row. leb (row .start) (r .clock)) (view (state-of r) .rows-of n) ≡ true → RemovalIs r (withdraws n) (no-removal 10 (r .clock))
+      refused-10 b = refusal-removal (withdraws n) 10 (withdraw-10 (r .setup) (state-of r) n a b) (λ z. omega arith)
 
-  pub refused-11 : (tick : ℕ) → tick < r .clock → Steps r (moves tick) (record { answer = refusal 11 0; register = r })
-  refused-11 tick h = refused-steps valid (moves tick) (refusal 11 0) (clock-11 (r .setup) (state-of r) tick h) (λ z. omega arith)
+      pub withdrawn :
+          any-of (λ row. leb (row .start) (r .clock)) (view (state-of r) .rows-of n) ≡ false →
+          {mask : List Bool} → MaskOf (of-job n) (r .rows) (r .count) mask → RemovalIs r (withdraws n) (record { number = 0; clock = r .clock; leaves = mask })
+      unfolding withdraw
+      withdrawn b m left removes =
+          let is = withdraw-0 (r .setup) (state-of r) n a b in
+          accepted-steps
+          valid
+          (withdraws n)
+          (refusal 0 0)
+          is
+          left
+          (removes (of-job n) m ∙ ap (register-of (r .setup)) (sym (withdrawn-left (r .setup) (state-of r) n is)))
 
-  pub refused-12 : (tick : ℕ) → r .clock ≤ tick → horizon < tick → Steps r (moves tick) (record { answer = refusal 12 0; register = r })
-  refused-12 tick h k = refused-steps valid (moves tick) (refusal 12 0) (clock-12 (r .setup) (state-of r) tick h k) (λ z. omega arith)
+  module _ (tick : ℕ) where
+    pub refused-11 : tick < r .clock → RemovalIs r (moves tick) (no-removal 11 (r .clock))
+    refused-11 h = refusal-removal (moves tick) 11 (clock-11 (r .setup) (state-of r) tick h) (λ z. omega arith)
 
-  -- the register with its clock set
-  abbrev pub at-tick : ℕ → Register
-  at-tick tick = record { setup = r .setup; clock = tick; count = r .count; rows = r .rows; total = r .total }
+    module _ (h : r .clock ≤ tick) where
+      pub refused-12 : horizon < tick → RemovalIs r (moves tick) (no-removal 12 (r .clock))
+      refused-12 k = refusal-removal (moves tick) 12 (clock-12 (r .setup) (state-of r) tick h k) (λ z. omega arith)
 
-  pub moved-valid : (tick : ℕ) → r .clock ≤ tick → tick ≤ horizon → Valid (at-tick tick)
-  moved-valid tick h k = record {
-    sound = valid .sound;
-    long = valid .long;
-    count-at-most = valid .count-at-most;
-    blank = valid .blank;
-    bounded = record { clock = k; count = valid .bounded .count; rows = valid .bounded .rows; total = valid .bounded .total };
-  }
-
-  pub clock-moved :
-      (tick : ℕ) → r .clock ≤ tick → tick ≤ horizon →
-      {left : Register} →
-      left ≡ register-of (r .setup) (remove (λ row. ended tick (keep (of-job (row .job)) (take (r .count) (r .rows)))) (state-of (at-tick tick))) →
-      Steps r (moves tick) (record { answer = refusal 0 0; register = left })
-  unfolding advance
-  clock-moved tick h k {left} e =
-      let is = clock-0 (r .setup) (state-of r) tick h k in
-      accepted-steps valid (moves tick) (refusal 0 0) is left (e ∙ ap (register-of (r .setup)) (sym (moved-left (r .setup) (state-of r) tick is)))
+      pub clock-moved :
+          tick ≤ horizon →
+          {mask : List Bool} → MaskOf (λ row. ended tick (keep (of-job (row .job)) (take (r .count) (r .rows)))) (r .rows) (r .count) mask →
+          RemovalIs r (moves tick) (record { number = 0; clock = tick; leaves = mask })
+      unfolding advance
+      clock-moved k m left removes =
+          let is = clock-0 (r .setup) (state-of r) tick h k in
+          accepted-steps valid (moves tick) (refusal 0 0) is left (removes _ m ∙ ap (register-of (r .setup)) (sym (moved-left (r .setup) (state-of r) tick is)))

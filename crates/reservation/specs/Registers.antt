@@ -14,6 +14,10 @@ use Rattle.reservation.specs.declared.Register.{Register}
 abbrev pub state-of : Register → State
 state-of r = record { clock = r .clock; rows = take (r .count) (r .rows); total = r .total }
 
+-- the same with another clock
+abbrev pub state-at : (clock : ℕ) → Register → State
+state-at clock r = record { clock = clock; rows = state-of r .rows; total = r .total }
+
 -- the one register that stands for a state: the slots past its rows are blank
 abbrev pub register-of : Setup → State → Register
 register-of s st = record {

@@ -1,23 +1,22 @@
 // Refusals 5 and 6: a number that is held, and a task that no machine can end in time.
 use rules::Job;
-use rules::Row;
 use rules::Setup;
+use rules::Task;
 ghost use mathlib.Core.Path.{_≡_};
 ghost use Prim.Native.Nat.{_≤_};
-ghost use lib.ListN.{take};
-ghost use Rattle.rules.specs.Sequences.{any-of};
-ghost use Rattle.rules.specs.Words.{of-job, row-limit};
+ghost use Rattle.rules.specs.Words.{row-limit};
 ghost use Rattle.rules.specs.Refusals.{infeasible as rules-infeasible, first-infeasible as rules-first-infeasible};
-ghost use Rattle.reservation.specs.Tests.{AskFeasible, AskFeasibleTask, named};
+ghost use Rattle.reservation.specs.Tests.{AskFeasible, AskTimes, TestOf, named};
+ghost use Rattle.reservation.specs.Calls.{HeldIs};
 
 // Some row carries the number.
-pub fn is_held(rows: [Row; 256], count: usize, number: u64) -> bool
+pub fn is_held(jobs: &[u64; 256], count: usize, number: u64) -> bool
     requires { ⌜ count ≤ row-limit ⌝ }
-    ensures { λ r. ⌜ r ≡ any-of (of-job number) (take count rows) ⌝ }
+    ensures { λ r. ⌜ HeldIs (now (jobs .entry)) count number r ⌝ }
 {
     let mut i: usize = 0;
     while i < count {
-        let job = rows[i].job;
+        let job = jobs[i];
         if job == number {
             return true;
         }
@@ -27,12 +26,10 @@ pub fn is_held(rows: [Row; 256], count: usize, number: u64) -> bool
 }
 
 // No machine, or clock plus the least non-zero run time exceeds the deadline: no machine ends in time even if it starts at once.
-fn infeasible(s: Setup, clock: u64, job: Job, task: u64) -> bool
-    requires { ⌜ AskFeasibleTask s clock job task ⌝ }
-    ensures { λ r. ⌜ r ≡ rules-infeasible s clock job task ⌝ }
+fn infeasible(s: Setup, clock: u64, its: Task) -> bool
+    requires { ⌜ AskTimes s clock its ⌝ }
+    ensures { λ r. ⌜ TestOf (rules-infeasible s clock) its r ⌝ }
 {
-    let at = (task - 1) as usize;
-    let its = job.tasks[at];
     let table = s.table;
     let mut m: u64 = 0;
     while m < table.machines {
@@ -55,8 +52,10 @@ pub fn first_infeasible(s: Setup, clock: u64, job: Job) -> u64
 {
     let mut t: u64 = 0;
     while t < job.taskcount {
+        let at = t as usize;
+        let its = job.tasks[at];
         t += 1;
-        if infeasible(s, clock, job, t) {
+        if infeasible(s, clock, its) {
             return t;
         }
     }

@@ -3,12 +3,14 @@ use crate::Register;
 use rules::Job;
 use rules::Message;
 use rules::Setup;
+use rules::Task;
 ghost use mathlib.Core.Path.{_≡_};
 ghost use mathlib.Core.Bool.{false};
-ghost use Rattle.rules.specs.Words.{largest-number};
+ghost use Prim.Native.Nat.{_≤_};
+ghost use Rattle.rules.specs.Words.{largest-number, most-machines};
 ghost use Rattle.rules.specs.Sequences.{precedes};
 ghost use Rattle.rules.specs.Refusals.{outside, miscounted as rules-miscounted, task-out-of-range, out-of-range as rules-out-of-range, message-out-of-range as rules-message-out-of-range, listing, bad-messages as rules-bad-messages};
-ghost use Rattle.reservation.specs.Tests.{AskFigures, AskFigure};
+ghost use Rattle.reservation.specs.Tests.{AskFigures, TestOf};
 
 // The largest scheduling, dispatch or run time.
 const LONGEST: u64 = 1_000_000;
@@ -35,12 +37,10 @@ pub fn miscounted(job: Job) -> bool
 }
 
 // A deadline, a dispatch time or a run time of the task is out of range.
-fn figures_outside(s: Setup, job: Job, task: u64) -> bool
-    requires { ⌜ AskFigure s job task ⌝ }
-    ensures { λ r. ⌜ r ≡ task-out-of-range s job task ⌝ }
+fn figures_outside(s: Setup, its: Task) -> bool
+    requires { ⌜ s .table .machines ≤ most-machines ⌝ }
+    ensures { λ r. ⌜ TestOf (task-out-of-range s) its r ⌝ }
 {
-    let at = (task - 1) as usize;
-    let its = job.tasks[at];
     if its.deadline < 1 {
         return true;
     }
@@ -71,8 +71,10 @@ pub fn out_of_range(s: Setup, job: Job) -> bool
     }
     let mut t: u64 = 0;
     while t < job.taskcount {
+        let at = t as usize;
+        let its = job.tasks[at];
         t += 1;
-        if figures_outside(s, job, t) {
+        if figures_outside(s, its) {
             return true;
         }
     }

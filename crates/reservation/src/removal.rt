@@ -2,33 +2,34 @@
 use crate::Register;
 use placement::trial::blank;
 use rules::Row;
-ghost use mathlib.Core.Path.{_≡_};
-ghost use Prim.Native.Nat.{_≤_, _<_};
-ghost use lib.ListN.{getD, take};
-ghost use Rattle.rules.specs.Sequences.{keep};
-ghost use Rattle.rules.specs.Words.{of-job, row-limit};
-ghost use Rattle.rules.specs.Withdrawing.{ended};
+ghost use Prim.Native.Nat.{_≤_};
+ghost use Rattle.rules.specs.Words.{row-limit};
 ghost use Rattle.reservation.specs.Registers.{Valid};
-ghost use Rattle.reservation.specs.Calls.{ColumnOf, MaskOf, Removes, AskEnded, EndedIs};
+ghost use Rattle.placement.specs.Columns.{ColumnOf};
+ghost use Rattle.reservation.specs.Calls.{EndedIs, RowsOf, RowsEnded, Removes};
 
-// The jobs and the finishes of the rows, which are read once for each row.
-struct Figures {
-    jobs: [u64; 256],
-    finishes: [u64; 256],
+// The jobs, the starts and the finishes of the rows, gathered once for a call.
+pub struct Figures {
+    pub jobs: [u64; 256],
+    pub starts: [u64; 256],
+    pub finishes: [u64; 256],
 }
 
-fn figures_of(rows: [Row; 256], count: usize) -> Figures
+pub fn figures_of(rows: [Row; 256], count: usize) -> Figures
     requires { ⌜ count ≤ row-limit ⌝ }
     ensures { λ r. ⌜ ColumnOf (λ row. row .job) rows count (r .jobs) ⌝ }
+    ensures { λ r. ⌜ ColumnOf (λ row. row .start) rows count (r .starts) ⌝ }
     ensures { λ r. ⌜ ColumnOf (λ row. row .finish) rows count (r .finishes) ⌝ }
 {
     let mut figures = Figures {
         jobs: [0; 256],
+        starts: [0; 256],
         finishes: [0; 256],
     };
     let mut i: usize = 0;
     while i < count {
         figures.jobs[i] = rows[i].job;
+        figures.starts[i] = rows[i].start;
         figures.finishes[i] = rows[i].finish;
         i += 1;
     }
@@ -43,7 +44,7 @@ fn job_ended<'a>(
     job: u64,
     tick: u64,
 ) -> bool
-    requires { ⌜ AskEnded count ⌝ }
+    requires { ⌜ count ≤ row-limit ⌝ }
     ensures { λ r. ⌜ EndedIs (now (jobs .entry)) (now (finishes .entry)) count job tick r ⌝ }
 {
     let mut i: usize = 0;
@@ -62,58 +63,56 @@ fn job_ended<'a>(
 }
 
 // The rows of a job.
-pub fn rows_of(rows: [Row; 256], count: usize, number: u64) -> [bool; 256]
+pub fn rows_of(jobs: &[u64; 256], count: usize, number: u64) -> [bool; 256]
     requires { ⌜ count ≤ row-limit ⌝ }
-    ensures { λ r. ⌜ MaskOf (of-job number) rows count r ⌝ }
+    ensures { λ r. ⌜ RowsOf (now (jobs .entry)) count number r ⌝ }
 {
     let mut leaves = [false; 256];
     let mut i: usize = 0;
     while i < count {
-        let job = rows[i].job;
+        let job = jobs[i];
         leaves[i] = job == number;
         i += 1;
     }
     leaves
 }
 
-// Whether every row of the job of one row ends at or before the tick. That row is asked first: a row that is still to end spares a look at the others.
-fn job_of_row_ended<'a>(
+// The rows of jobs whose every row ends at or before the tick. A row that is still to end answers for its job, and the rows of a job stand next to
+// each other: the others are looked at only where neither that nor the last answer serves.
+pub fn rows_ended<'a>(
     jobs: &'a [u64; 256],
     finishes: &'a [u64; 256],
     count: usize,
-    at: usize,
     tick: u64,
-) -> bool
-    requires { ⌜ AskEnded count × (at < count) ⌝ }
-    ensures { λ r. ⌜ EndedIs (now (jobs .entry)) (now (finishes .entry)) count (getD (now (jobs .entry)) at 0) tick r ⌝ }
-{
-    let own = finishes[at];
-    if tick < own {
-        return false;
-    }
-    let job = jobs[at];
-    job_ended(jobs, finishes, count, job, tick)
-}
-
-// The rows of jobs whose every row ends at or before the tick.
-pub fn rows_ended(rows: [Row; 256], count: usize, tick: u64) -> [bool; 256]
+) -> [bool; 256]
     requires { ⌜ count ≤ row-limit ⌝ }
-    ensures { λ r. ⌜ MaskOf (λ row. ended tick (keep (of-job (row .job)) (take count rows))) rows count r ⌝ }
+    ensures { λ r. ⌜ RowsEnded (now (jobs .entry)) (now (finishes .entry)) count tick r ⌝ }
 {
-    let figures = figures_of(rows, count);
     let mut leaves = [false; 256];
+    // Any job will do to begin with, also where no row is held.
+    let mut asked = jobs[0];
+    let mut gone = job_ended(jobs, finishes, count, asked, tick);
     let mut i: usize = 0;
     while i < count {
-        leaves[i] = job_of_row_ended(&figures.jobs, &figures.finishes, count, i, tick);
+        let job = jobs[i];
+        let own = finishes[i];
+        if tick < own {
+            asked = job;
+            gone = false;
+        } else if job != asked {
+            asked = job;
+            gone = job_ended(jobs, finishes, count, job, tick);
+        }
+        leaves[i] = gone;
         i += 1;
     }
     leaves
 }
 
-// The rows that stay keep their order, and the slots that are freed become blank.
-pub fn without(register: Register, leaves: [bool; 256]) -> Register
+// The rows that stay keep their order, the slots that are freed become blank, and the clock is the one given.
+pub fn without(register: Register, clock: u64, leaves: [bool; 256]) -> Register
     requires { ⌜ Valid register ⌝ }
-    ensures { λ r. ⌜ Removes register leaves r ⌝ }
+    ensures { λ r. ⌜ Removes register clock leaves r ⌝ }
 {
     let mut rows = [blank(); 256];
     let mut kept: usize = 0;
@@ -134,7 +133,7 @@ pub fn without(register: Register, leaves: [bool; 256]) -> Register
     let setup = register.setup;
     Register {
         setup: setup,
-        clock: register.clock,
+        clock: clock,
         count: kept,
         rows: rows,
         total: total,

@@ -8,17 +8,40 @@ use crate::ranges::bad_messages;
 use crate::ranges::miscounted;
 use crate::ranges::number_outside;
 use crate::ranges::out_of_range;
+use placement::HELD;
+use placement::SPANS;
+use placement::columns::fill;
 use placement::place::Placement;
 use placement::place::place;
+use placement::place::without_rows;
 use rules::Answer;
 use rules::Job;
+use rules::Setup;
+ghost use mathlib.Core.Path.{_≡_};
+ghost use Prim.Native.Nat.{_≤_};
+ghost use Rattle.rules.specs.Words.{most-machines};
 ghost use Rattle.reservation.specs.Registers.{Valid};
-ghost use Rattle.reservation.specs.Calls.{Submits, EarlyIs, AskAdmit, Admits};
+ghost use Rattle.reservation.specs.Calls.{Submits, EarlyIs, refuses, AskSettle, Settles, Judges, AskAdmit, Admits};
 
-// The first of refusals 1 to 5, 0 if none applies.
-fn early(register: Register, job: Job) -> u64
-    requires { ⌜ Valid register ⌝ }
-    ensures { λ r. ⌜ EarlyIs register job r ⌝ }
+// The answer to a submission, and the rows that it admits: none if it refuses.
+struct Verdict {
+    answer: Answer,
+    found: Placement,
+}
+
+fn refused(number: u64, task: u64) -> Verdict
+    ensures { λ r. ⌜ r ≡ refuses number task ⌝ }
+{
+    Verdict {
+        answer: numbered(number, task),
+        found: without_rows(0),
+    }
+}
+
+// The first of refusals 1 to 4, which the job alone decides; 0 if none applies.
+fn early(s: Setup, job: Job) -> u64
+    requires { ⌜ s .table .machines ≤ most-machines ⌝ }
+    ensures { λ r. ⌜ EarlyIs s job r ⌝ }
 {
     if number_outside(job.number) {
         return 1;
@@ -26,18 +49,79 @@ fn early(register: Register, job: Job) -> u64
     if miscounted(job) {
         return 2;
     }
-    let setup = register.setup;
-    if out_of_range(setup, job) {
+    if out_of_range(s, job) {
         return 3;
     }
     if bad_messages(job) {
         return 4;
     }
-    let rows = register.rows;
-    if is_held(rows, register.count, job.number) {
-        return 5;
-    }
     0
+}
+
+// Refusals 7 and 8, and admission: what placing found, beside so many rows held.
+fn settled(count: usize, found: Placement) -> Verdict
+    requires { ⌜ AskSettle count found ⌝ }
+    ensures { λ r. ⌜ Settles count found r ⌝ }
+{
+    if found.late != 0 {
+        return refused(7, found.late);
+    }
+    if Register::ROWS < count + found.count {
+        return refused(8, 0);
+    }
+    let answer = Answer {
+        number: 0,
+        task: 0,
+        cost: found.cost,
+        rows: found.count as u64,
+    };
+    Verdict {
+        answer: answer,
+        found: found,
+    }
+}
+
+// The rows held are read once, into columns: tests and searches read those.
+fn judged(register: Register, job: Job) -> Verdict
+    requires { ⌜ Valid register ⌝ }
+    ensures { λ r. ⌜ Judges register job r ⌝ }
+{
+    let setup = register.setup;
+    let number = early(setup, job);
+    if number != 0 {
+        return refused(number, 0);
+    }
+    let rows = register.rows;
+    let count = register.count;
+    let mut jobs = [0u64; HELD];
+    let mut resources = [0u64; SPANS];
+    let mut starts = [0u64; SPANS];
+    let mut finishes = [0u64; SPANS];
+    fill(
+        rows,
+        count,
+        &mut jobs,
+        &mut resources,
+        &mut starts,
+        &mut finishes,
+    );
+    if is_held(&jobs, count, job.number) {
+        return refused(5, 0);
+    }
+    let hopeless = first_infeasible(setup, register.clock, job);
+    if hopeless != 0 {
+        return refused(6, hopeless);
+    }
+    let found = place(
+        setup,
+        register.clock,
+        job,
+        &mut resources,
+        &mut starts,
+        &mut finishes,
+        count,
+    );
+    settled(count, found)
 }
 
 // The rows found go after the held ones, and their cost is added.
@@ -65,45 +149,14 @@ fn admitted(register: Register, found: Placement) -> Register
 }
 
 impl Register {
+    // The register left is made in one place, refused or not: a register made at each way out would be copied at each.
     pub fn submit(self, job: Job) -> Reply
         requires { ⌜ Valid self ⌝ }
         ensures { λ r. ⌜ Submits self job r ⌝ }
     {
-        let number = early(self, job);
-        if number != 0 {
-            return Reply {
-                answer: numbered(number, 0),
-                register: self,
-            };
-        }
-        let setup = self.setup;
-        let hopeless = first_infeasible(setup, self.clock, job);
-        if hopeless != 0 {
-            return Reply {
-                answer: numbered(6, hopeless),
-                register: self,
-            };
-        }
-        let rows = self.rows;
-        let found = place(setup, self.clock, rows, self.count, job);
-        if found.late != 0 {
-            return Reply {
-                answer: numbered(7, found.late),
-                register: self,
-            };
-        }
-        if Register::ROWS < self.count + found.count {
-            return Reply {
-                answer: numbered(8, 0),
-                register: self,
-            };
-        }
-        let answer = Answer {
-            number: 0,
-            task: 0,
-            cost: found.cost,
-            rows: found.count as u64,
-        };
+        let verdict = judged(self, job);
+        let answer = verdict.answer;
+        let found = verdict.found;
         Reply {
             answer: answer,
             register: admitted(self, found),

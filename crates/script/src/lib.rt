@@ -56,10 +56,10 @@ fn run_calls(input: &[u8], output: &mut [u8]) -> usize
         let call = act.call;
         let kind = call.kind;
         let reply = register.apply(call);
-        let answer = reply.answer;
-        end = put_reply(output, end, kind, answer);
         let left = reply.register;
         register = left;
+        let answer = reply.answer;
+        end = put_reply(output, end, kind, answer);
         at = next;
     }
     put_listing(output, end, register)

@@ -1,4 +1,4 @@
--- `placing::show_least` meets its contract: the two spans hold a tick each, and end below the bound.
+-- `placing::show_least` meets its contract: the two spans hold a tick each, and end below the bound; their chains are those of their resources.
 use Prim.Native.Nat.{ℕ, zero, suc, _<_}
 use native.Mathlib.Omega.{arith}
 use borrow.Author.Needs.{needs}
@@ -32,17 +32,26 @@ array-write-starts-2 c = search needs
 array-write-finishes-2 : tie.Need-array-write-finishes-2
 array-write-finishes-2 c = search needs
 
+nexts-of-requires : tie.Need-nexts-of-requires
+nexts-of-requires c κs = record { few = omega arith; known = below-two _ (omega arith) (omega arith) }
+
+backs-of-requires : tie.Need-backs-of-requires
+backs-of-requires c κs = record { few = omega arith; known = below-two _ (omega arith) (omega arith) }
+
 slice-aggregate-figure : tie.Need-slice-aggregate-figure
 slice-aggregate-figure c = search needs
 
 least-free-requires : tie.Need-least-free-requires
 least-free-requires c κs =
-    record {
-      spans = record { within = omega arith; lasts = below-two _ (omega arith) (omega arith); ends = below-two _ (omega arith) (omega arith) };
-      from-below = omega arith;
-      len-above = omega arith;
-      len-below = omega arith;
-    }
+    let chains = c .before .before .before .before .before .before in (
+      record {
+        spans = record { within = omega arith; lasts = below-two _ (omega arith) (omega arith); ends = below-two _ (omega arith) (omega arith) };
+        from-below = omega arith;
+        len-above = omega arith;
+        len-below = omega arith;
+      },
+      (omega arith, record { few = omega arith; within = omega arith; on = chains .before .before .nexts-of .ensures; back = chains .backs-of .ensures }),
+    )
 
 figure-requires : tie.Need-figure-requires
 figure-requires c κs = search needs
@@ -61,6 +70,8 @@ show-least-spec =
     array-write-resources-2
     array-write-starts-2
     array-write-finishes-2
+    nexts-of-requires
+    backs-of-requires
     slice-aggregate-figure
     least-free-requires
     figure-requires

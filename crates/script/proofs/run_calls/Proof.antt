@@ -80,8 +80,8 @@ apply-requires c κs = c .before .before .before .before .before .before .loop .
 
 put-reply-requires : tie.Need-put-reply-requires Inv-loop μ-loop
 put-reply-requires c κs =
-    let at = c .before .before .before .before .before .before .before .before .before in
-    let start = c .before .before .before .before .before .before .before .before .before .before .before .before .before in
+    let at = c .before .before .before .before .before .before .before .before .before .before in
+    let start = c .before .before .before .before .before .before .before .before .before .before .before .before .before .before in
     running-room
     (start .args .input .now)
     (start .args .output .now)
@@ -92,7 +92,7 @@ put-reply-requires c κs =
     (at .loop .output)
     (at .loop .end)
     (at .loop .inv)
-    (c .before .before .before .before .before .before .before .before .loop-test .taken)
+    (c .before .before .before .before .before .before .before .before .before .loop-test .taken)
 
 loop-less : tie.Need-loop-less Inv-loop μ-loop
 loop-less c =
@@ -130,11 +130,11 @@ loop-again c =
     (act .call .job)
     (c .before .before .before .before .before .before .before .before .before .turn .given .0 .0)
     (c .before .before .before .before .before .before .apply .result)
-    (c .before .before .before .put-reply .last .0)
-    (c .before .before .before .put-reply .result)
+    (c .before .before .put-reply .last .0)
+    (c .before .before .put-reply .result)
     (sym (c .before .before .before .before .before .before .before .before .before .before .before .next-act .ensures) ∙ ap (λ (t : Turn). turn-act t (act .call)) (c .before .before .before .before .before .before .before .before .before .turn .given .1))
     (c .before .before .before .before .before .before .apply .ensures)
-    (c .before .before .before .put-reply .ensures (act .call .job))
+    (c .before .before .put-reply .ensures (act .call .job))
 
 put-listing-requires : tie.Need-put-listing-requires Inv-loop μ-loop
 put-listing-requires c κs =

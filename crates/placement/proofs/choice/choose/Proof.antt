@@ -1,24 +1,26 @@
 -- `placement::choice::choose` meets its contract: after m machines what is kept is the foremost of their good trials.
 use Prim.Native.Nat.{_-_, _<_}
+use native.Mathlib.Omega.{arith}
 use borrow.Author.Tests.{not-true, not-false}
 use Rattle.placement.proofs.Sums.{less-next, task-below, task-fits, machine-below, machine-fits, machine-turn-fits}
 use Rattle.placement.proofs.Chosen.{Chosen, chosen-none, chosen-unable, chosen-asks, chosen-late, chosen-stays, chosen-taken, chosen-all}
+use Rattle.placement.proofs.Chaining.{chained-same}
 use Rattle.placement.proofs.choice.choose.Statement.{statement}
 use Rattle.placement.proofs.choice.choose.Tie as tie
 
 abbrev Inv-loop : tie.InvT-loop
-Inv-loop s standing task release resources₀ starts₀ finishes₀ used job at its table kept₀ m₀ resources starts finishes kept m =
+Inv-loop s standing task release resources₀ starts₀ finishes₀ nexts backs held used job at its table kept₀ m₀ resources starts finishes kept m =
     Chosen s job (standing .machines) (standing .finishes) task release resources₀ starts₀ finishes₀ used resources starts finishes kept m
 
 abbrev μ-loop : tie.MeasureT-loop
-μ-loop s standing task release resources₀ starts₀ finishes₀ used job at its table kept₀ m₀ resources starts finishes kept m =
+μ-loop s standing task release resources₀ starts₀ finishes₀ nexts backs held used job at its table kept₀ m₀ resources starts finishes kept m =
     s .table .machines - m
 
 sub-at : tie.Need-sub-at Inv-loop μ-loop
-sub-at c = c .pre .listed .first
+sub-at c = c .pre .0 .listed .first
 
 its-below : (c : tie.Start Inv-loop μ-loop) → c .args .task - 1 < 16
-its-below c = task-below _ _ (c .pre .listed .first) (c .pre .listed .last) (c .pre .order .tasks)
+its-below c = task-below _ _ (c .pre .0 .listed .first) (c .pre .0 .listed .last) (c .pre .0 .order .tasks)
 
 mul-its : tie.Need-mul-its Inv-loop μ-loop
 mul-its c = task-fits _ (its-below c)
@@ -30,10 +32,10 @@ nothing-requires : tie.Need-nothing-requires Inv-loop μ-loop
 nothing-requires c κs = tt
 
 loop-holds : tie.Need-loop-holds Inv-loop μ-loop
-loop-holds c = chosen-none (c .before .before .before .pre) _ (c .nothing .ensures .0) (c .nothing .ensures .1)
+loop-holds c = chosen-none (c .before .before .before .pre .0) _ (c .nothing .ensures .0) (c .nothing .ensures .1)
 
 run-below : (c : tie.Then1 Inv-loop μ-loop) → c .before .before .loop .m < 4
-run-below c = machine-below _ _ (c .if1 .taken) (c .before .before .before .before .before .before .pre .room)
+run-below c = machine-below _ _ (c .if1 .taken) (c .before .before .before .before .before .before .pre .0 .room)
 
 mul-run : tie.Need-mul-run Inv-loop μ-loop
 mul-run c = machine-fits _ (run-below c)
@@ -50,16 +52,19 @@ loop-less c = less-next _ _ (c .before .before .if1 .taken)
 loop-again : tie.Need-loop-again Inv-loop μ-loop
 loop-again c =
     let at = c .before .before .before .before in
-    chosen-unable (at .before .before .before .before .pre) (at .loop .inv) (c .before .before .if1 .taken) (c .if2 .taken)
+    chosen-unable (at .before .before .before .before .pre .0) (at .loop .inv) (c .before .before .if1 .taken) (c .if2 .taken)
 
 attempt-requires : tie.Need-attempt-requires Inv-loop μ-loop
 attempt-requires c κs =
     let at = c .before .before .before .before .before .before .before in
-    chosen-asks
-    (at .before .before .before .before .pre)
-    (at .loop .inv)
-    (c .before .before .before .before .before .if1 .taken)
-    (c .before .before .before .if2 .left)
+    let pre = at .before .before .before .before .pre in (
+      chosen-asks
+          (pre .0)
+          (at .loop .inv)
+          (c .before .before .before .before .before .if1 .taken)
+          (c .before .before .before .if2 .left),
+      chained-same (λ i h. at .loop .inv .columns .same .resources-same i (let within = pre .1 .within in omega arith)) (pre .1) (pre .1 .within),
+    )
 
 loop-less-2 : tie.Need-loop-less-2 Inv-loop μ-loop
 loop-less-2 c = less-next _ _ (c .before .before .before .before .before .before .before .before .if1 .taken)
@@ -68,7 +73,7 @@ loop-again-2 : tie.Need-loop-again-2 Inv-loop μ-loop
 loop-again-2 c =
     let at = c .before .before .before .before .before .before .before .before .before .before in
     chosen-late
-    (at .before .before .before .before .pre)
+    (at .before .before .before .before .pre .0)
     (at .loop .inv)
     (c .before .before .before .before .before .before .before .before .if1 .taken)
     (c .before .before .before .before .before .before .if2 .left)
@@ -85,7 +90,7 @@ loop-again-3 : tie.Need-loop-again-3 Inv-loop μ-loop
 loop-again-3 c =
     let at = c .before .before .before .before .before .before .before .before .before .before .before .before .before in
     chosen-stays
-    (at .before .before .before .before .pre)
+    (at .before .before .before .before .pre .0)
     (at .loop .inv)
     (c .before .before .before .before .before .before .before .before .before .before .before .if1 .taken)
     (c .before .before .before .before .before .before .before .before .before .if2 .left)
@@ -101,7 +106,7 @@ loop-again-4 : tie.Need-loop-again-4 Inv-loop μ-loop
 loop-again-4 c =
     let at = c .before .before .before .before .before .before .before .before .before .before .before .before .before in
     chosen-taken
-    (at .before .before .before .before .pre)
+    (at .before .before .before .before .pre .0)
     (at .loop .inv)
     (c .before .before .before .before .before .before .before .before .before .before .before .if1 .taken)
     (c .before .before .before .before .before .before .before .before .before .if2 .left)
@@ -111,7 +116,7 @@ loop-again-4 c =
     (not-false _ (c .if4 .left))
 
 returns : tie.Need-returns Inv-loop μ-loop
-returns c = chosen-all (c .before .before .before .before .before .before .pre) (c .before .before .loop .inv) (c .if1 .left)
+returns c = chosen-all (c .before .before .before .before .before .before .pre .0) (c .before .before .loop .inv) (c .if1 .left)
 
 pub choose-spec : {M : Type 1} → statement M
 choose-spec =

@@ -1,5 +1,5 @@
--- `placement::columns::fill` meets its contract: after i turns the columns mirror the first i rows.
-use mathlib.Core.Path.{_≡_}
+-- `placement::columns::fill` meets its contract: after i turns the columns mirror the first i rows, and the jobs are theirs.
+use mathlib.Core.Path.{_≡_, refl}
 use Prim.Native.Nat.{_-_, _<_}
 use native.Mathlib.Omega.{arith}
 use native.Mathlib.Numerals.{add-one}
@@ -7,17 +7,19 @@ use lib.ListN.{length}
 use borrow.Author.Needs.{needs}
 use Rattle.placement.proofs.Sums.{less-next, held-below, held-fits, held-turn-fits}
 use Rattle.placement.proofs.Mirror.{Filled, filled-none, filled-more}
+use Rattle.placement.proofs.Made.{Made, made-none, made-more, made-column}
 use Rattle.placement.proofs.columns.fill.Statement.{statement}
 use Rattle.placement.proofs.columns.fill.Tie as tie
 
 abbrev Inv-loop : tie.InvT-loop
-Inv-loop count resources₀ starts₀ finishes₀ rows i₀ resources starts finishes i = Filled rows count resources starts finishes i
+Inv-loop count jobs₀ resources₀ starts₀ finishes₀ rows i₀ jobs resources starts finishes i =
+    Filled rows count resources starts finishes i × Made 0 (λ row. row .job) rows jobs i
 
 abbrev μ-loop : tie.MeasureT-loop
-μ-loop count resources₀ starts₀ finishes₀ rows i₀ resources starts finishes i = count - i
+μ-loop count jobs₀ resources₀ starts₀ finishes₀ rows i₀ jobs resources starts finishes i = count - i
 
 loop-holds : tie.Need-loop-holds Inv-loop μ-loop
-loop-holds c = filled-none (c .args .t1) (c .args .count) (c .pre .widths)
+loop-holds c = (filled-none (c .args .t1) (c .args .count) (c .pre .widths), made-none 0 _ _ _ (c .pre .jobs-long))
 
 row-below : (c : tie.In-loop Inv-loop μ-loop) → c .before .loop .i < 256
 row-below c = held-below _ _ (c .loop-test .taken) (c .before .before .pre .count-at-most)
@@ -27,6 +29,12 @@ mul-row c = held-fits _ (row-below c)
 
 array-copy-out-row : tie.Need-array-copy-out-row Inv-loop μ-loop
 array-copy-out-row c = row-below c
+
+mul-jobs : tie.Need-mul-jobs Inv-loop μ-loop
+mul-jobs c = omega (arith, row-below (c .before))
+
+element-write-jobs : tie.Need-element-write-jobs Inv-loop μ-loop
+element-write-jobs c = row-below (c .before)
 
 put-requires : tie.Need-put-requires Inv-loop μ-loop
 put-requires c κs =
@@ -46,14 +54,18 @@ loop-again c =
     let long : length (a .t1) ≡ 256 = search needs in
     let put = c .put .ensures in
     rw
-    (put .0, put .1 .0, put .1 .1, add-one)
-    (filled-more (a .t1) (a .count) (at .loop .inv) (omega arith) (omega arith) (omega arith))
+    (put .0, put .1 .0, put .1 .1, add-one) (
+      filled-more (a .t1) (a .count) (at .loop .inv .0) (omega arith) (omega arith) (omega arith),
+      made-more (at .loop .inv .1) (row-below (c .before .before .before .before .before)) _ refl,
+    )
 
 returns : tie.Need-returns Inv-loop μ-loop
 returns c =
-    let inv = c .before .loop .inv in
-    let all : c .before .loop .i ≡ c .before .before .args .count = omega arith in
-    (inv .widths, rw (← all) (inv .mirrors))
+    let at = c .before in
+    let filled = at .loop .inv .0 in
+    let all : at .loop .i ≡ at .before .args .count = omega arith in
+    let made = at .loop .inv .1 in
+    (made-column made (omega arith), (filled .widths, rw (← all) (filled .mirrors)))
 
 pub fill-spec : {M : Type 1} → statement M
 fill-spec =
@@ -64,6 +76,8 @@ fill-spec =
     loop-holds
     mul-row
     array-copy-out-row
+    mul-jobs
+    element-write-jobs
     put-requires
     add-i
     loop-less

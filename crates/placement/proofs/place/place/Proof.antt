@@ -1,192 +1,23 @@
--- `placement::place::place` meets its contract: before each turn, what is left of the rules' placing starts from the rows booked so far.
-use mathlib.Core.Path.{_≡_, refl}
-use mathlib.Core.List.{List}
-use mathlib.Core.Option.{some}
-use Prim.Native.Nat.{_-_, _<_}
-use native.Mathlib.Numerals.{add-one}
-use lib.ListN.{take}
-use borrow.Author.Needs.{needs}
-use borrow.Author.Tests.{not-true, not-false}
-use Rattle.rules.specs.declared.Row.{Row}
-use Rattle.rules.specs.Placing.{next-task, choice, try}
-use Rattle.placement.specs.Asked.{AskRelease}
-use Rattle.placement.specs.Columns.{Mirrors}
-use Rattle.placement.specs.Trials.{IsKeptOf}
-use Rattle.placement.specs.Placements.{AskPlace}
-use Rattle.placement.proofs.Sums.{less-next, task-below, standing-fits, task-turn-fits, used-fits}
-use Rattle.placement.proofs.Placed.{Placing-so-far, so-far-none, so-far-more, turn-none, turn-late, all-turns, ask-fill, ask-order, ask-release, ask-choice, beside, ask-append, next-none, next-some}
-use Rattle.placement.proofs.Tasks.{length-mapped}
+-- `placement::place::place` meets its contract.
+use native.Mathlib.Omega.{arith}
+use Rattle.placement.proofs.Chaining.{ask-chain}
 use Rattle.placement.proofs.place.place.Statement.{statement}
 use Rattle.placement.proofs.place.place.Tie as tie
 
--- the held rows are moved away before the loop: it is said of all rows whose columns these were
-abbrev Inv-loop : tie.InvT-loop
-Inv-loop s clock count job resources₀ starts₀ finishes₀ standing₀ own₀ turn₀ resources starts finishes standing own turn =
-    (held : List Row) (ask : AskPlace s clock held count job) → Mirrors (take count held) resources₀ starts₀ finishes₀ count →
-    Placing-so-far s clock held count job ask (standing .machines) (standing .finishes) resources starts finishes own turn
+nexts-of-requires : tie.Need-nexts-of-requires
+nexts-of-requires c κs = ask-chain (c .before .pre)
 
-abbrev μ-loop : tie.MeasureT-loop
-μ-loop s clock count job resources₀ starts₀ finishes₀ standing₀ own₀ turn₀ resources starts finishes standing own turn =
-    job .taskcount - turn
+backs-of-requires : tie.Need-backs-of-requires
+backs-of-requires c κs = ask-chain (c .before .before .before .pre)
 
--- what is said of the rows held, before a turn
-abbrev SoFar : (c : tie.At-loop Inv-loop μ-loop) → let start = c .before .before .before .before .before .before in (held : List Row) → AskPlace (start .args .s) (start .args .clock) held (start .args .count) (start .args .job) → Type 0
-SoFar c held ask =
-    let start = c .before .before .before .before .before .before in
-    Placing-so-far (start .args .s) (start .args .clock) held (start .args .count) (start .args .job) ask (c .loop .standing .machines) (c .loop .standing .finishes) (c .loop .resources) (c .loop .starts) (c .loop .finishes) (c .loop .own) (c .loop .turn)
+place-tasks-requires : tie.Need-place-tasks-requires
+place-tasks-requires c κs =
+    let chained = c .before .before .before .before .before in
+    let pre = chained .before .before .before .before .pre in
+    (pre, record { few = pre .ask .count-at-most; within = omega arith; on = chained .before .before .nexts-of .ensures; back = chained .backs-of .ensures })
 
-so-far : (c : tie.At-loop Inv-loop μ-loop) → SoFar c (c .before .before .before .before .before .before .args .held) (c .before .before .before .before .before .before .pre)
-so-far c = c .loop .inv (c .before .before .before .before .before .before .args .held) (c .before .before .before .before .before .before .pre) (c .before .before .fill .ensures .1)
-
--- the task whose turn it is
-next-at :
-    (c : tie.Else2 Inv-loop μ-loop) →
-    let at = c .before .before .before .before in
-    let start = at .before .before .before .before .before .before in
-    (held : List Row) (ask : AskPlace (start .args .s) (start .args .clock) held (start .args .count) (start .args .job)) → SoFar at held ask →
-    next-task (start .args .job) (take (at .loop .own .count) (at .loop .own .rows)) ≡ some (c .before .next-ready .result)
-next-at c held ask p = next-some (c .before .next-ready .result) (c .if2 .left) (c .before .next-ready .ensures _ (p .stands))
-
-release-at : (c : tie.Else2 Inv-loop μ-loop) → AskRelease (c .before .before .before .before .before .before .before .before .before .before .args .job) (c .before .before .before .before .before .before .before .before .before .before .args .clock) (c .before .next-ready .result)
-release-at c =
-    let at = c .before .before .before .before in
-    let start = at .before .before .before .before .before .before in
-    ask-release (start .args .s) (start .args .clock) (start .args .held) (start .args .count) (start .args .job) (start .pre) (so-far at) (next-at c (start .args .held) (start .pre) (so-far at))
-
-task-at : (c : tie.Else2 Inv-loop μ-loop) → c .before .next-ready .result - 1 < 16
-task-at c = let ask = release-at c in task-below _ _ (ask .listed .first) (ask .listed .last) (ask .order .tasks)
-
--- what is kept of its trials
-kept-at :
-    (c : tie.After-choose Inv-loop μ-loop) →
-    let at = c .before .before .before .before .before .before .before .before .before .before in
-    let start = at .before .before .before .before .before .before in
-    (held : List Row) (ask : AskPlace (start .args .s) (start .args .clock) held (start .args .count) (start .args .job)) → SoFar at held ask →
-    let new = take (at .loop .own .count) (at .loop .own .rows) in
-    let task = c .before .before .before .before .before .before .before .next-ready .result in
-    IsKeptOf (choice (start .args .s) (start .args .clock) (take (start .args .count) held) (start .args .job) new task) (try (start .args .s) (start .args .clock) (take (start .args .count) held) (start .args .job) new task) (c .choose .result)
-kept-at c held ask p =
-    let at = c .before .before .before .before .before .before .before .before .before .before in
-    let start = at .before .before .before .before .before .before in
-    c .choose .ensures .is _ _ (start .args .clock) (ask .in-range) (beside (start .args .s) (start .args .clock) held (start .args .count) (start .args .job) ask p (next-at (c .before .before .before .before .before .before) held ask p)) (c .before .before .before .before .before .release-time .ensures .0 _ (p .stands))
-
-fill-requires : tie.Need-fill-requires Inv-loop μ-loop
-fill-requires c κs =
-    let start = c .before .before .before in
-    ask-fill (start .args .s) (start .args .clock) (start .args .held) (start .args .count) (start .args .job) (start .pre) (search (length-mapped, needs)) (record { resources-long = refl; starts-long = refl; finishes-long = refl })
-
-without-rows-requires : tie.Need-without-rows-requires Inv-loop μ-loop
-without-rows-requires c κs = tt
-
-loop-holds : tie.Need-loop-holds Inv-loop μ-loop
-loop-holds c =
-    λ held ask mirrors.
-    rw (c .without-rows .ensures) (so-far-none _ _ held _ _ ask (c .before .fill .ensures .0) mirrors)
-
-next-ready-requires : tie.Need-next-ready-requires Inv-loop μ-loop
-next-ready-requires c κs =
-    let start = c .before .before .before .before .before .before .before .before in
-    ask-order (start .args .s) (start .args .clock) (start .args .held) (start .args .count) (start .args .job) (start .pre)
-
-returns : tie.Need-returns Inv-loop μ-loop
-returns c =
-    let at = c .before .before .before .before in
-    let start = at .before .before .before .before .before .before in
-    let p = so-far at in
-    turn-none (start .args .s) (start .args .clock) (start .args .held) (start .args .count) (start .args .job) (start .pre) p (next-none (c .if2 .taken) (c .before .next-ready .ensures _ (p .stands))) (c .before .before .if1 .taken)
-
-release-time-requires : tie.Need-release-time-requires Inv-loop μ-loop
-release-time-requires c κs = release-at c
-
-add-used : tie.Need-add-used Inv-loop μ-loop
-add-used c = used-fits _ _ (c .before .before .before .before .before .before .before .before .before .before .before .before .pre .count-at-most) (so-far (c .before .before .before .before .before .before) .count-at-most)
-
-choose-requires : tie.Need-choose-requires Inv-loop μ-loop
-choose-requires c κs =
-    let at = c .before .before .before .before .before .before .before .before .before in
-    let start = at .before .before .before .before .before .before in
-    ask-choice (start .args .s) (start .args .clock) (start .args .held) (start .args .count) (start .args .job) (start .pre) (so-far at) (next-at (c .before .before .before .before .before) (start .args .held) (start .pre) (so-far at)) (c .before .before .before .before .release-time .ensures .1)
-
-without-rows-requires-2 : tie.Need-without-rows-requires-2 Inv-loop μ-loop
-without-rows-requires-2 c κs = tt
-
-returns-2 : tie.Need-returns-2 Inv-loop μ-loop
-returns-2 c =
-    let at = c .before .before .before .before .before .before .before .before .before .before .before .before .before in
-    let start = at .before .before .before .before .before .before in
-    let p = so-far at in
-    let kept = kept-at (c .before .before .before) (start .args .held) (start .pre) p in
-    rw (c .without-rows2 .ensures) (turn-late (start .args .s) (start .args .clock) (start .args .held) (start .args .count) (start .args .job) (start .pre) p (next-at (c .before .before .before .before .before .before .before .before .before) (start .args .held) (start .pre) p) (kept .none-found (not-true _ (c .before .if3 .taken))) (c .before .before .before .before .before .before .before .before .before .before .before .if1 .taken))
-
-append-requires : tie.Need-append-requires Inv-loop μ-loop
-append-requires c κs =
-    let at = c .before .before .before .before .before .before .before .before .before .before .before .before .before .before .before .before in
-    let start = at .before .before .before .before .before .before in
-    let p = so-far at in
-    let one = kept-at (c .before .before .before .before .before .before) (start .args .held) (start .pre) p .one-found (not-false _ (c .before .before .before .before .if3 .left)) in
-    ask-append (start .args .s) (start .args .clock) (start .args .held) (start .args .count) (start .args .job) (start .pre) p _ (next-at (c .before .before .before .before .before .before .before .before .before .before .before .before) (start .args .held) (start .pre) p) (one .0) (one .1) (c .before .before .before .before .before .before .choose .ensures .bounds) (c .before .before .before .before .before .before .choose .ensures .columns)
-
-sub-at : tie.Need-sub-at Inv-loop μ-loop
-sub-at c = release-at (c .before .before .before .before .before .before .before .before .before .before .before .before .before) .listed .first
-
-mul-standing : tie.Need-mul-standing Inv-loop μ-loop
-mul-standing c = standing-fits _ (task-at (c .before .before .before .before .before .before .before .before .before .before .before .before .before))
-
-element-write-standing : tie.Need-element-write-standing Inv-loop μ-loop
-element-write-standing c = task-at (c .before .before .before .before .before .before .before .before .before .before .before .before .before)
-
-mul-standing-2 : tie.Need-mul-standing-2 Inv-loop μ-loop
-mul-standing-2 c = standing-fits _ (task-at (c .before .before .before .before .before .before .before .before .before .before .before .before .before))
-
-element-write-standing-2 : tie.Need-element-write-standing-2 Inv-loop μ-loop
-element-write-standing-2 c = task-at (c .before .before .before .before .before .before .before .before .before .before .before .before .before)
-
-add-turn : tie.Need-add-turn Inv-loop μ-loop
-add-turn c = task-turn-fits _ _ (c .before .before .before .before .before .before .before .before .before .before .before .before .before .before .before .if1 .taken) (release-at (c .before .before .before .before .before .before .before .before .before .before .before .before .before) .order .tasks)
-
-loop-less : tie.Need-loop-less Inv-loop μ-loop
-loop-less c = less-next _ _ (c .before .before .before .before .before .before .before .before .before .before .before .before .before .before .before .if1 .taken)
-
-loop-again : tie.Need-loop-again Inv-loop μ-loop
-loop-again c =
-    let at = c .before .before .before .before .before .before .before .before .before .before .before .before .before .before .before .before .before in
-    let start = at .before .before .before .before .before .before in
-    λ held ask mirrors.
-    let p = at .loop .inv held ask mirrors in
-    let one = kept-at (c .before .before .before .before .before .before .before) held ask p .one-found (not-false _ (c .before .before .before .before .before .if3 .left)) in
-    rw
-    (add-one (at .loop .turn))
-    (so-far-more (start .args .s) (start .args .clock) held (start .args .count) (start .args .job) ask p _ (next-at (c .before .before .before .before .before .before .before .before .before .before .before .before .before) held ask p) (one .0) (one .1) (c .before .before .before .before .before .before .before .choose .ensures .bounds) (c .before .before .before .before .before .before .before .before .before .before .before .before .before .before .before .if1 .taken) (c .before .before .before .before .before .before .before .choose .ensures .columns) (c .append .ensures))
-
-returns-3 : tie.Need-returns-3 Inv-loop μ-loop
-returns-3 c =
-    let at = c .before .before in
-    let start = at .before .before .before .before .before .before in
-    all-turns (start .args .s) (start .args .clock) (start .args .held) (start .args .count) (start .args .job) (start .pre) (so-far at) (c .if1 .left)
+returns : tie.Need-returns
+returns c = c .place-tasks .ensures
 
 pub place-spec : {M : Type 1} → statement M
-place-spec =
-    tie.close
-    (tie.spec
-    Inv-loop
-    μ-loop
-    fill-requires
-    without-rows-requires
-    loop-holds
-    next-ready-requires
-    returns
-    release-time-requires
-    add-used
-    choose-requires
-    without-rows-requires-2
-    returns-2
-    append-requires
-    sub-at
-    mul-standing
-    element-write-standing
-    mul-standing-2
-    element-write-standing-2
-    add-turn
-    loop-less
-    loop-again
-    returns-3)
+place-spec = tie.close (tie.spec nexts-of-requires backs-of-requires place-tasks-requires returns)

@@ -10,19 +10,19 @@ use Rattle.placement.proofs.search.after_last_of.Statement.{statement}
 use Rattle.placement.proofs.search.after_last_of.Tie as tie
 
 abbrev Inv-loop : tie.InvT-loop
-Inv-loop resources key below left₀ left = LookedBack key resources below left
+Inv-loop resources key floor below left₀ left = LookedBack key resources floor below left
 
 abbrev μ-loop : tie.MeasureT-loop
-μ-loop resources key below left₀ left = left
+μ-loop resources key floor below left₀ left = left
 
 loop-holds : tie.Need-loop-holds Inv-loop μ-loop
-loop-holds c = record { within = omega arith; none = λ j a b. absurd (omega arith) }
+loop-holds c = record { down = c .pre .0; within = omega arith; none = λ j a b. absurd (omega arith) }
 
 entry-below : (c : tie.In-loop Inv-loop μ-loop) → c .before .loop .left - 1 < room
-entry-below c = let within = c .before .loop .inv .within in omega (arith, c .loop-test .taken, c .before .before .pre)
+entry-below c = let within = c .before .loop .inv .within in omega (arith, c .loop-test .taken, c .before .before .pre .1)
 
 sub-if1 : tie.Need-sub-if1 Inv-loop μ-loop
-sub-if1 c = c .loop-test .taken
+sub-if1 c = omega (arith, c .loop-test .taken)
 
 mul-if1 : tie.Need-mul-if1 Inv-loop μ-loop
 mul-if1 c = entry-fits _ (entry-below c)
@@ -33,10 +33,10 @@ element-copy-out-if1 c = entry-below c
 returns : tie.Need-returns Inv-loop μ-loop
 returns c =
     let inv = c .before .before .before .loop .inv in
-    record { within = inv .within; none = inv .none; here = λ _. c .if1 .taken }
+    record { down = inv .down; within = inv .within; none = inv .none; here = λ _. c .if1 .taken }
 
 sub-left : tie.Need-sub-left Inv-loop μ-loop
-sub-left c = c .before .before .loop-test .taken
+sub-left c = omega (arith, c .before .before .loop-test .taken)
 
 loop-less : tie.Need-loop-less Inv-loop μ-loop
 loop-less c = omega (arith, c .before .before .loop-test .taken)
@@ -44,12 +44,12 @@ loop-less c = omega (arith, c .before .before .loop-test .taken)
 loop-again : tie.Need-loop-again Inv-loop μ-loop
 loop-again c =
     let a = c .before .before .before .before .args in
-    back-looked-more (a .key) (a .resources .now) (a .below) (c .before .before .before .loop .left) (c .before .before .loop-test .taken) (c .before .before .before .loop .inv) (c .if1 .left)
+    back-looked-more (a .key) (a .resources .now) (a .floor) (a .below) (c .before .before .before .loop .left) (c .before .before .loop-test .taken) (c .before .before .before .loop .inv) (c .if1 .left)
 
 returns-2 : tie.Need-returns-2 Inv-loop μ-loop
 returns-2 c =
     let inv = c .before .loop .inv in
-    record { within = inv .within; none = inv .none; here = λ h. absurd (omega (arith, c .loop-test .left)) }
+    record { down = inv .down; within = inv .within; none = inv .none; here = λ h. absurd (omega (arith, c .loop-test .left)) }
 
 pub after-last-of-spec : {M : Type 1} → statement M
 after-last-of-spec =

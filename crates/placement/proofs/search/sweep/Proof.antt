@@ -6,28 +6,39 @@ use native.Mathlib.Numerals.{add-one}
 use Prim.Native.Nat.{ℕ, suc, _+_, _-_, _≤_, _<_}
 use lib.ListN.{getD}
 use Rattle.placement.specs.Columns.{room}
-use Rattle.placement.proofs.Sums.{below-room, entry-fits, entry-turn-fits}
+use Rattle.placement.specs.Chains.{nodes}
+use Rattle.placement.proofs.Sums.{below-room, entry-fits, node-fits, key-place}
 use Rattle.placement.proofs.Passes.{Swept, swept-none, swept-more, swept-skip, at-own}
 use Rattle.placement.proofs.search.sweep.Statement.{statement}
 use Rattle.placement.proofs.search.sweep.Tie as tie
 
 abbrev Inv-loop : tie.InvT-loop
-Inv-loop resources starts finishes count key from len tick₀ i₀ tick i = Swept resources starts finishes count key from len tick i × (i < count → getD resources i 0 ≡ key)
+Inv-loop resources starts finishes nexts held count key from len tick₀ i₀ tick i = Swept resources starts finishes count key from len tick i × (i < count → getD resources i 0 ≡ key)
 
 abbrev μ-loop : tie.MeasureT-loop
-μ-loop resources starts finishes count key from len tick₀ i₀ tick i = count - i
+μ-loop resources starts finishes nexts held count key from len tick₀ i₀ tick i = count - i
 
 entry-below : (c : tie.In-loop Inv-loop μ-loop) → c .before .loop .i < room
-entry-below c = below-room _ _ (c .loop-test .taken) (c .before .before .before .pre .spans .within)
+entry-below c = below-room _ _ (c .loop-test .taken) (c .before .before .before .before .pre .0 .spans .within)
 
-next-of-requires : tie.Need-next-of-requires Inv-loop μ-loop
-next-of-requires c κs = record { within = omega arith; few = c .pre .spans .within }
+key-there : (c : tie.Start Inv-loop μ-loop) → c .args .key < nodes
+key-there c = key-place _ (c .pre .1 .0 .known)
+
+mul-chained-or-own : tie.Need-mul-chained-or-own Inv-loop μ-loop
+mul-chained-or-own c = node-fits _ (key-there c)
+
+element-copy-out-chained-or-own : tie.Need-element-copy-out-chained-or-own Inv-loop μ-loop
+element-copy-out-chained-or-own c = key-there c
+
+chained-or-own-requires : tie.Need-chained-or-own-requires Inv-loop μ-loop
+chained-or-own-requires c κs = record { within = c .before .pre .1 .1; few = c .before .pre .0 .spans .within }
 
 loop-holds : tie.Need-loop-holds Inv-loop μ-loop
 loop-holds c =
-    let a = c .before .args in
-    let next = c .next-of .ensures in
-    (swept-skip (a .resources .now) (a .starts .now) (a .finishes .now) (a .count) (a .key) (a .from) (a .len) (a .from) 0 (c .next-of .result) (swept-none (a .resources .now) (a .starts .now) (a .finishes .now) (a .count) (a .key) (a .from) (a .len) (c .before .pre .from-below)) next, next .here)
+    let a = c .before .before .args in
+    let pre = c .before .before .pre in
+    let next = c .chained-or-own .ensures 0 (pre .1 .2 .first _ (pre .1 .0 .known)) in
+    (swept-skip (a .resources .now) (a .starts .now) (a .finishes .now) (a .count) (a .key) (a .from) (a .len) (a .from) 0 (c .chained-or-own .result) (swept-none (a .resources .now) (a .starts .now) (a .finishes .now) (a .count) (a .key) (a .from) (a .len) (pre .0 .from-below)) next, next .here)
 
 mul-past : tie.Need-mul-past Inv-loop μ-loop
 mul-past c = entry-fits _ (entry-below (c))
@@ -44,31 +55,32 @@ element-copy-out-past-2 c = entry-below (c .before)
 past-requires : tie.Need-past-requires Inv-loop μ-loop
 past-requires c κs =
     let at = c .before .before .before in
-    let pre = c .before .before .before .before .before .pre in
+    let pre = c .before .before .before .before .before .before .pre .0 in
     let below = at .loop .inv .0 .below in
     (omega (arith, pre .len-below), pre .len-above, pre .spans .lasts (at .loop .i) (c .before .before .loop-test .taken))
 
-add-next-of : tie.Need-add-next-of Inv-loop μ-loop
-add-next-of c = entry-turn-fits _ (entry-below (c .before .before .before))
-
-next-of-requires-2 : tie.Need-next-of-requires-2 Inv-loop μ-loop
-next-of-requires-2 c κs = record { within = let h = c .before .before .before .loop-test .taken in omega arith; few = c .before .before .before .before .before .before .pre .spans .within }
+following-requires : tie.Need-following-requires Inv-loop μ-loop
+following-requires c κs =
+    let at = c .before .before .before .before in
+    let pre = at .before .before .before .pre in
+    let test = c .before .before .before .loop-test .taken in
+    (record { along = pre .1 .0; within = pre .1 .1; fits = pre .0 .spans .within; there = test; here = at .loop .inv .1 test }, pre .1 .2)
 
 loop-less : tie.Need-loop-less Inv-loop μ-loop
 loop-less c =
-    let on = c .next-of2 .ensures .on in
-    let within = c .next-of2 .ensures .within in
+    let on = c .following .ensures .on in
+    let within = c .following .ensures .within in
     omega (arith, c .before .before .before .before .loop-test .taken)
 
 loop-again : tie.Need-loop-again Inv-loop μ-loop
 loop-again c =
     let at = c .before .before .before .before .before in
-    let a = c .before .before .before .before .before .before .before .args in
+    let a = c .before .before .before .before .before .before .before .before .args in
     let test = c .before .before .before .before .loop-test .taken in
     let own = at .loop .inv .1 test in
-    let next = c .next-of2 .ensures in
+    let next = c .following .ensures in
     let moved =
-    swept-more (a .resources .now) (a .starts .now) (a .finishes .now) (a .count) (a .key) (a .from) (a .len) (at .loop .tick) (at .loop .i) (c .before .before .before .before .before .before .before .pre .spans) test (at .loop .inv .0)
+    swept-more (a .resources .now) (a .starts .now) (a .finishes .now) (a .count) (a .key) (a .from) (a .len) (at .loop .tick) (at .loop .i) (c .before .before .before .before .before .before .before .before .pre .0 .spans) test (at .loop .inv .0)
     in
     let tick = sym (c .before .past .ensures ∙ sym (at-own (a .resources .now) (a .starts .now) (a .finishes .now) (a .key) (a .len) (at .loop .tick) (at .loop .i) own)) in
     let here : Swept (a .resources .now) (a .starts .now) (a .finishes .now) (a .count) (a .key) (a .from) (a .len) (c .before .past .result) (at .loop .i + 1) =
@@ -77,13 +89,13 @@ loop-again c =
     (sym (add-one (at .loop .i)))
     (subst (λ (t : ℕ). Swept (a .resources .now) (a .starts .now) (a .finishes .now) (a .count) (a .key) (a .from) (a .len) t (suc (at .loop .i))) tick moved)
     in
-    (swept-skip (a .resources .now) (a .starts .now) (a .finishes .now) (a .count) (a .key) (a .from) (a .len) (c .before .past .result) (at .loop .i + 1) (c .next-of2 .result) here next, next .here)
+    (swept-skip (a .resources .now) (a .starts .now) (a .finishes .now) (a .count) (a .key) (a .from) (a .len) (c .before .past .result) (at .loop .i + 1) (c .following .result) here next, next .here)
 
 returns : tie.Need-returns Inv-loop μ-loop
 returns c =
     let at = c .before in
     let within = at .loop .inv .0 .within in
-    let all : at .loop .i ≡ c .before .before .before .args .count = omega (arith, c .loop-test .left) in
+    let all : at .loop .i ≡ c .before .before .before .before .args .count = omega (arith, c .loop-test .left) in
     rw (← all) (at .loop .inv .0 .is-swept)
 
 pub sweep-spec : {M : Type 1} → statement M
@@ -92,15 +104,16 @@ sweep-spec =
     (tie.spec
     Inv-loop
     μ-loop
-    next-of-requires
+    mul-chained-or-own
+    element-copy-out-chained-or-own
+    chained-or-own-requires
     loop-holds
     mul-past
     element-copy-out-past
     mul-past-2
     element-copy-out-past-2
     past-requires
-    add-next-of
-    next-of-requires-2
+    following-requires
     loop-less
     loop-again
     returns)

@@ -12,26 +12,26 @@ use Rattle.placement.proofs.search.sweep_back.Statement.{statement}
 use Rattle.placement.proofs.search.sweep_back.Tie as tie
 
 abbrev Inv-loop : tie.InvT-loop
-Inv-loop resources starts finishes count key from len tick₀ left₀ tick left = SweptBack resources starts finishes count key from len tick left × (0 < left → getD resources (left - 1) 0 ≡ key)
+Inv-loop resources starts finishes backs held count key from len tick₀ left₀ tick left = SweptBack resources starts finishes count key from len tick left × (0 < left → getD resources (left - 1) 0 ≡ key)
 
 abbrev μ-loop : tie.MeasureT-loop
-μ-loop resources starts finishes count key from len tick₀ left₀ tick left = left
+μ-loop resources starts finishes backs held count key from len tick₀ left₀ tick left = left
 
 -- the entry that is looked at
 entry-there : (c : tie.In-loop Inv-loop μ-loop) → c .before .loop .left - 1 < c .before .before .before .args .count
 entry-there c = let within = c .before .loop .inv .0 .within in omega (arith, c .loop-test .taken)
 
 entry-below : (c : tie.In-loop Inv-loop μ-loop) → c .before .loop .left - 1 < room
-entry-below c = below-room _ _ (entry-there c) (c .before .before .before .pre .spans .within)
+entry-below c = below-room _ _ (entry-there c) (c .before .before .before .pre .0 .spans .within)
 
-after-last-of-requires : tie.Need-after-last-of-requires Inv-loop μ-loop
-after-last-of-requires c κs = c .pre .spans .within
+preceding-requires : tie.Need-preceding-requires Inv-loop μ-loop
+preceding-requires c κs = (record { along = c .pre .1 .0; fits = c .pre .0 .spans .within; here = λ h. absurd (omega (arith, c .pre .1 .1)) }, c .pre .1 .2)
 
 loop-holds : tie.Need-loop-holds Inv-loop μ-loop
 loop-holds c =
     let a = c .before .args in
-    let last = c .after-last-of .ensures in
-    (back-skip (a .resources .now) (a .starts .now) (a .finishes .now) (a .count) (a .key) (a .from) (a .len) (a .from) (a .count) (c .after-last-of .result) (back-none (a .resources .now) (a .starts .now) (a .finishes .now) (a .count) (a .key) (a .from) (a .len) (c .before .pre .from-below)) last, last .here)
+    let last = c .preceding .ensures in
+    (back-skip (a .resources .now) (a .starts .now) (a .finishes .now) (a .count) (a .key) (a .from) (a .len) (a .from) (a .count) (c .preceding .result) (back-none (a .resources .now) (a .starts .now) (a .finishes .now) (a .count) (a .key) (a .from) (a .len) (c .before .pre .0 .from-below)) last, last .here)
 
 sub-left : tie.Need-sub-left Inv-loop μ-loop
 sub-left c = c .loop-test .taken
@@ -51,15 +51,19 @@ element-copy-out-past-2 c = entry-below (c .before)
 past-requires : tie.Need-past-requires Inv-loop μ-loop
 past-requires c κs =
     let at = c .before .before .before in
-    let pre = c .before .before .before .before .before .pre in
+    let pre = c .before .before .before .before .before .pre .0 in
     let below = at .loop .inv .0 .below in
     (omega (arith, pre .len-below), pre .len-above, pre .spans .lasts (at .loop .left - 1) (entry-there (c .before .before)))
 
-after-last-of-requires-2 : tie.Need-after-last-of-requires-2 Inv-loop μ-loop
-after-last-of-requires-2 c κs = let below = entry-below (c .before .before .before) in omega arith
+preceding-requires-2 : tie.Need-preceding-requires-2 Inv-loop μ-loop
+preceding-requires-2 c κs =
+    let at = c .before .before .before .before in
+    let pre = at .before .before .pre in
+    let below = entry-below (c .before .before .before) in
+    (record { along = pre .1 .0; fits = omega arith; here = λ _. at .loop .inv .1 (c .before .before .before .loop-test .taken) }, pre .1 .2)
 
 loop-less : tie.Need-loop-less Inv-loop μ-loop
-loop-less c = let within = c .after-last-of2 .ensures .within in omega (arith, c .before .before .before .before .loop-test .taken)
+loop-less c = let within = c .preceding2 .ensures .within in omega (arith, c .before .before .before .before .loop-test .taken)
 
 loop-again : tie.Need-loop-again Inv-loop μ-loop
 loop-again c =
@@ -67,20 +71,20 @@ loop-again c =
     let a = c .before .before .before .before .before .before .before .args in
     let test = c .before .before .before .before .loop-test .taken in
     let own = at .loop .inv .1 test in
-    let last = c .after-last-of2 .ensures in
+    let last = c .preceding2 .ensures in
     let one : at .loop .left ≡ suc (at .loop .left - 1) = omega (arith, test) in
     let moved =
     back-more
     (a .resources .now) (a .starts .now) (a .finishes .now) (a .count) (a .key) (a .from) (a .len)
     (at .loop .tick)
     (at .loop .left - 1)
-    (c .before .before .before .before .before .before .before .pre .spans)
+    (c .before .before .before .before .before .before .before .pre .0 .spans)
     (entry-there (c .before .before .before .before))
     (subst (λ (n : ℕ). SweptBack (a .resources .now) (a .starts .now) (a .finishes .now) (a .count) (a .key) (a .from) (a .len) (at .loop .tick) n) one (at .loop .inv .0))
     in
     let tick = sym (c .before .past .ensures ∙ sym (at-own (a .resources .now) (a .starts .now) (a .finishes .now) (a .key) (a .len) (at .loop .tick) (at .loop .left - 1) own)) in
     let here : SweptBack (a .resources .now) (a .starts .now) (a .finishes .now) (a .count) (a .key) (a .from) (a .len) (c .before .past .result) (at .loop .left - 1) = subst (λ (t : ℕ). SweptBack (a .resources .now) (a .starts .now) (a .finishes .now) (a .count) (a .key) (a .from) (a .len) t (at .loop .left - 1)) tick moved in
-    (back-skip (a .resources .now) (a .starts .now) (a .finishes .now) (a .count) (a .key) (a .from) (a .len) (c .before .past .result) (at .loop .left - 1) (c .after-last-of2 .result) here last, last .here)
+    (back-skip (a .resources .now) (a .starts .now) (a .finishes .now) (a .count) (a .key) (a .from) (a .len) (c .before .past .result) (at .loop .left - 1) (c .preceding2 .result) here last, last .here)
 
 returns : tie.Need-returns Inv-loop μ-loop
 returns c =
@@ -95,7 +99,7 @@ sweep-back-spec =
     (tie.spec
     Inv-loop
     μ-loop
-    after-last-of-requires
+    preceding-requires
     loop-holds
     sub-left
     mul-past
@@ -103,7 +107,7 @@ sweep-back-spec =
     mul-past-2
     element-copy-out-past-2
     past-requires
-    after-last-of-requires-2
+    preceding-requires-2
     loop-less
     loop-again
     returns)

@@ -6,6 +6,7 @@ use Rattle.rules.specs.Placing.{message-booking, least-free}
 use Rattle.placement.specs.Columns.{spans-of}
 use Rattle.placement.proofs.Figures.{transfer-at-most}
 use Rattle.placement.proofs.Passes.{least-below}
+use Rattle.placement.proofs.Chaining.{link-known}
 use Rattle.placement.proofs.trial.try_message.Statement.{statement}
 use Rattle.placement.proofs.trial.try_message.Tie as tie
 
@@ -17,17 +18,17 @@ link-key-requires c κs = search needs
 
 least-free-requires : tie.Need-least-free-requires
 least-free-requires c κs =
-    let pre = c .before .before .pre in
+    let pre = c .before .before .pre .0 in
     let most = transfer-at-most (pre .moves) in
     let is = c .before .transfer-of .ensures in
     let takes = pre .takes-time in
     let low = pre .done-at-most in
-    record { spans = pre .spans; from-below = omega arith; len-above = omega arith; len-below = omega arith }
+    (record { spans = pre .spans; from-below = omega arith; len-above = omega arith; len-below = omega arith }, (rw (c .link-key .ensures) (link-known (pre .moves .ends)), c .before .before .pre .1))
 
 message-row-requires : tie.Need-message-row-requires
 message-row-requires c κs =
     let a = c .before .before .before .args in
-    let pre = c .before .before .before .pre in
+    let pre = c .before .before .before .pre .0 in
     let low = pre .done-at-most in
     let below
     = least-below _ (a .resources .now) (a .starts .now) (a .finishes .now) (a .count) (a .done) (c .before .before .transfer-of .result) (pre .spans) (omega arith) in

@@ -12,15 +12,16 @@ use Rattle.placement.proofs.Tasks.{length-mapped}
 use Rattle.placement.proofs.Gathered.{Gathered, gathered-none, gathered-other-next, gathered-without-next, gathered-with-next, gathered-all}
 use Rattle.placement.proofs.Gathered.{sender-listed, room-left, ask-input, input-fits}
 use Rattle.placement.proofs.Crossings.{crosses-apart, crosses-together, crosses-empty}
+use Rattle.placement.proofs.Chaining.{chained-same}
 use Rattle.placement.proofs.trial.try_messages.Statement.{statement}
 use Rattle.placement.proofs.trial.try_messages.Tie as tie
 
 abbrev Inv-loop : tie.InvT-loop
-Inv-loop s task machine release resources₀ starts₀ finishes₀ used job standing rows₀ count₀ arrived₀ cost₀ total i₀ resources starts finishes rows count arrived cost i =
+Inv-loop s task machine release resources₀ starts₀ finishes₀ nexts backs held used job standing rows₀ count₀ arrived₀ cost₀ total i₀ resources starts finishes rows count arrived cost i =
     Gathered s job (standing .machines) (standing .finishes) task machine release resources₀ starts₀ finishes₀ used resources starts finishes rows count arrived cost i
 
 abbrev μ-loop : tie.MeasureT-loop
-μ-loop s task machine release resources₀ starts₀ finishes₀ used job standing rows₀ count₀ arrived₀ cost₀ total i₀ resources starts finishes rows count arrived cost i =
+μ-loop s task machine release resources₀ starts₀ finishes₀ nexts backs held used job standing rows₀ count₀ arrived₀ cost₀ total i₀ resources starts finishes rows count arrived cost i =
     total - i
 
 -- What holds in a turn.
@@ -35,19 +36,19 @@ abbrev msg-at : tie.At-loop Inv-loop μ-loop → Message
 msg-at c = getD (c .before .before .args .t2 .messages) (c .loop .i) none
 
 message-below : (c : tie.In-loop Inv-loop μ-loop) → c .before .loop .i < 32
-message-below c = turn-below _ _ (c .loop-test .taken) (c .before .before .before .pre .order .messages)
+message-below c = turn-below _ _ (c .loop-test .taken) (c .before .before .before .pre .0 .order .messages)
 
 sender-at : (c : tie.In-loop Inv-loop μ-loop) → (1 ≤ msg-at (c .before) .sender) × (msg-at (c .before) .sender ≤ most-tasks)
-sender-at c = sender-listed (c .before .before .before .pre) (c .before .loop .inv) (c .loop-test .taken) (all-messages (c .before .before .before)) none
+sender-at c = sender-listed (c .before .before .before .pre .0) (c .before .loop .inv) (c .loop-test .taken) (all-messages (c .before .before .before)) none
 
 room-at : (c : tie.In-loop Inv-loop μ-loop) → c .before .before .before .args .used + c .before .loop .count < room
-room-at c = room-left (c .before .before .before .pre) (c .before .loop .inv) (c .loop-test .taken) (all-messages (c .before .before .before)) none
+room-at c = room-left (c .before .before .before .pre .0) (c .before .loop .inv) (c .loop-test .taken) (all-messages (c .before .before .before)) none
 
 blank-requires : tie.Need-blank-requires Inv-loop μ-loop
 blank-requires c κs = tt
 
 loop-holds : tie.Need-loop-holds Inv-loop μ-loop
-loop-holds c = gathered-none (c .before .pre) _ refl
+loop-holds c = gathered-none (c .before .pre .0) _ refl
 
 mul-msg : tie.Need-mul-msg Inv-loop μ-loop
 mul-msg c = message-fits _ (message-below c)
@@ -65,7 +66,7 @@ loop-again : tie.Need-loop-again Inv-loop μ-loop
 loop-again c =
     let at = c .before .before .before .before in
     let start = at .before .before in
-    gathered-other-next (start .pre) (at .loop .inv) (c .before .before .before .loop-test .taken) (all-messages start) none (c .if1 .taken)
+    gathered-other-next (start .pre .0) (at .loop .inv) (c .before .before .before .loop-test .taken) (all-messages start) none (c .if1 .taken)
 
 sub-sender : tie.Need-sub-sender Inv-loop μ-loop
 sub-sender c = sender-at (c .before .before .before .before) .0
@@ -92,7 +93,7 @@ loop-again-2 : tie.Need-loop-again-2 Inv-loop μ-loop
 loop-again-2 c =
     let at = c .before .before .before .before .before .before .before .before .before in
     let start = at .before .before in
-    gathered-without-next (start .pre) (at .loop .inv) (c .before .before .before .before .before .before .before .before .loop-test .taken) (all-messages start) none (c .before .before .before .before .before .if1 .left) (crosses-together (msg-at at) _ _ (c .before .if2 .taken)) (c .later .ensures)
+    gathered-without-next (start .pre .0) (at .loop .inv) (c .before .before .before .before .before .before .before .before .loop-test .taken) (all-messages start) none (c .before .before .before .before .before .if1 .left) (crosses-together (msg-at at) _ _ (c .before .if2 .taken)) (c .later .ensures)
 
 later-requires-2 : tie.Need-later-requires-2 Inv-loop μ-loop
 later-requires-2 c κs = tt
@@ -104,7 +105,7 @@ loop-again-3 : tie.Need-loop-again-3 Inv-loop μ-loop
 loop-again-3 c =
     let at = c .before .before .before .before .before .before .before .before .before .before .before in
     let start = at .before .before in
-    gathered-without-next (start .pre) (at .loop .inv) (c .before .before .before .before .before .before .before .before .before .before .loop-test .taken) (all-messages start) none (c .before .before .before .before .before .before .before .if1 .left) (crosses-empty (msg-at at) _ _ (c .before .before .before .if2 .left) (c .before .if3 .taken)) (c .later2 .ensures)
+    gathered-without-next (start .pre .0) (at .loop .inv) (c .before .before .before .before .before .before .before .before .before .before .loop-test .taken) (all-messages start) none (c .before .before .before .before .before .before .before .if1 .left) (crosses-empty (msg-at at) _ _ (c .before .before .before .if2 .left) (c .before .if3 .taken)) (c .later2 .ensures)
 
 add-try-message : tie.Need-add-try-message Inv-loop μ-loop
 add-try-message c = room-fits _ (room-at (c .before .before .before .before .before .before .before .before .before .before .before .before))
@@ -112,8 +113,10 @@ add-try-message c = room-fits _ (room-at (c .before .before .before .before .bef
 try-message-requires : tie.Need-try-message-requires Inv-loop μ-loop
 try-message-requires c κs =
     let at = c .before .before .before .before .before .before .before .before .before .before .before .before .before in
-    let start = at .before .before in
-    ask-input (start .pre) (at .loop .inv) (c .before .before .before .before .before .before .before .before .before .before .before .before .loop-test .taken) (all-messages start) none (c .before .before .before .before .before .before .before .before .before .if1 .left) (crosses-apart (msg-at at) _ _ (c .before .before .before .before .before .if2 .left) (c .before .before .before .if3 .left))
+    let start = at .before .before in (
+      ask-input (start .pre .0) (at .loop .inv) (c .before .before .before .before .before .before .before .before .before .before .before .before .loop-test .taken) (all-messages start) none (c .before .before .before .before .before .before .before .before .before .if1 .left) (crosses-apart (msg-at at) _ _ (c .before .before .before .before .before .if2 .left) (c .before .before .before .if3 .left)),
+      chained-same (λ i h. at .loop .inv .working .same .resources-same i (let within = start .pre .1 .within in omega arith)) (start .pre .1) (let within = start .pre .1 .within in omega arith),
+    )
 
 add-put : tie.Need-add-put Inv-loop μ-loop
 add-put c = room-fits _ (room-at (c .before .before .before .before .before .before .before .before .before .before .before .before .before))
@@ -124,7 +127,7 @@ row-is-fit :
 row-is-fit c =
     let at = c .before .before .before .before .before .before .before .before .before .before .before .before .before .before in
     let start = at .before .before in
-    input-fits (start .pre) (at .loop .inv) (c .before .before .before .before .before .before .before .before .before .before .before .before .before .loop-test .taken) (all-messages start) none (c .before .before .before .before .before .before .before .before .before .before .if1 .left) (crosses-apart (msg-at at) _ _ (c .before .before .before .before .before .before .if2 .left) (c .before .before .before .before .if3 .left)) _ (c .try-message .ensures)
+    input-fits (start .pre .0) (at .loop .inv) (c .before .before .before .before .before .before .before .before .before .before .before .before .before .loop-test .taken) (all-messages start) none (c .before .before .before .before .before .before .before .before .before .before .if1 .left) (crosses-apart (msg-at at) _ _ (c .before .before .before .before .before .before .if2 .left) (c .before .before .before .before .if3 .left)) _ (c .try-message .ensures)
 
 put-requires : tie.Need-put-requires Inv-loop μ-loop
 put-requires c κs = let fit = row-is-fit (c .before .before .before) in (fit .0, fit .1)
@@ -151,10 +154,10 @@ loop-again-4 : tie.Need-loop-again-4 Inv-loop μ-loop
 loop-again-4 c =
     let at = c .before .before .before .before .before .before .before .before .before .before .before .before .before .before .before .before .before .before .before .before in
     let start = at .before .before in
-    gathered-with-next (start .pre) (at .loop .inv) (c .before .before .before .before .before .before .before .before .before .before .before .before .before .before .before .before .before .before .before .loop-test .taken) (all-messages start) none (c .before .before .before .before .before .before .before .before .before .before .before .before .before .before .before .before .if1 .left) (crosses-apart (msg-at at) _ _ (c .before .before .before .before .before .before .before .before .before .before .before .before .if2 .left) (c .before .before .before .before .before .before .before .before .before .before .if3 .left)) _ (c .before .before .before .before .before .before .try-message .ensures) (c .before .before .put .ensures .0) (c .before .before .put .ensures .1 .0) (c .before .before .put .ensures .1 .1) (c .before .later3 .ensures)
+    gathered-with-next (start .pre .0) (at .loop .inv) (c .before .before .before .before .before .before .before .before .before .before .before .before .before .before .before .before .before .before .before .loop-test .taken) (all-messages start) none (c .before .before .before .before .before .before .before .before .before .before .before .before .before .before .before .before .if1 .left) (crosses-apart (msg-at at) _ _ (c .before .before .before .before .before .before .before .before .before .before .before .before .if2 .left) (c .before .before .before .before .before .before .before .before .before .before .if3 .left)) _ (c .before .before .before .before .before .before .try-message .ensures) (c .before .before .put .ensures .0) (c .before .before .put .ensures .1 .0) (c .before .before .put .ensures .1 .1) (c .before .later3 .ensures)
 
 returns : tie.Need-returns Inv-loop μ-loop
-returns c = gathered-all (c .before .before .before .pre) (c .before .loop .inv) (c .loop-test .left)
+returns c = gathered-all (c .before .before .before .pre .0) (c .before .loop .inv) (c .loop-test .left)
 
 pub try-messages-spec : {M : Type 1} → statement M
 try-messages-spec =

@@ -1,8 +1,8 @@
 -- `reservation::feasible::first_infeasible` meets its contract: none of the tasks passed is infeasible.
-use mathlib.Core.Path.{sym, _∙_}
-use Prim.Native.Nat.{_-_}
+use Prim.Native.Nat.{_-_, _<_}
 use native.Mathlib.Omega.{arith}
-use Rattle.reservation.proofs.Feasibility.{NoneInfeasible, feasible-at-first, feasible-more, first-found, none-found}
+use Rattle.placement.proofs.Sums.{less-next, task-turn-below, task-turn-fits, task-fits}
+use Rattle.reservation.proofs.Feasibility.{count-at-most, times-asked, NoneInfeasible, feasible-at-first, feasible-more, first-found, none-found}
 use Rattle.reservation.proofs.feasible.first_infeasible.Statement.{statement}
 use Rattle.reservation.proofs.feasible.first_infeasible.Tie as tie
 
@@ -15,25 +15,36 @@ abbrev μ-loop : tie.MeasureT-loop
 loop-holds : tie.Need-loop-holds Inv-loop μ-loop
 loop-holds c = feasible-at-first _ _ _
 
+its-below : (c : tie.In-loop Inv-loop μ-loop) → c .before .loop .t < 16
+its-below c = task-turn-below _ _ (c .loop-test .taken) (count-at-most (c .before .before .pre))
+
+mul-its : tie.Need-mul-its Inv-loop μ-loop
+mul-its c = task-fits _ (its-below c)
+
+element-copy-out-its : tie.Need-element-copy-out-its Inv-loop μ-loop
+element-copy-out-its c = its-below c
+
 add-t : tie.Need-add-t Inv-loop μ-loop
-add-t c = omega arith
+add-t c = task-turn-fits _ 16 (its-below (c .before)) (omega arith)
 
 infeasible-requires : tie.Need-infeasible-requires Inv-loop μ-loop
-infeasible-requires c κs = record { feasible = c .before .before .before .pre; listed = record { first = omega arith; last = omega arith } }
+infeasible-requires c κs = times-asked (c .before .before .before .pre) (c .before .loop-test .taken)
 
 returns : tie.Need-returns Inv-loop μ-loop
 returns c =
-    first-found (c .before .before .before .before .loop .inv) (c .before .before .if1 .taken) (sym (c .before .infeasible .ensures) ∙ c .if2 .taken)
+    let at = c .before .before .before in
+    first-found (at .before .loop .inv) (at .loop-test .taken) (c .before .infeasible .ensures) (c .if1 .taken)
 
 loop-less : tie.Need-loop-less Inv-loop μ-loop
-loop-less c = omega arith
+loop-less c = less-next _ _ (c .before .before .before .loop-test .taken)
 
 loop-again : tie.Need-loop-again Inv-loop μ-loop
 loop-again c =
-    feasible-more (c .before .before .before .before .loop .inv) (c .before .before .if1 .taken) (sym (c .before .infeasible .ensures) ∙ c .if2 .left)
+    let at = c .before .before .before in
+    feasible-more (at .before .loop .inv) (at .loop-test .taken) (c .before .infeasible .ensures) (c .if1 .left)
 
 returns-2 : tie.Need-returns-2 Inv-loop μ-loop
-returns-2 c = none-found (c .before .before .loop .inv) (c .if1 .left)
+returns-2 c = none-found (c .before .loop .inv) (c .loop-test .left)
 
 pub first-infeasible-spec : {M : Type 1} → statement M
 first-infeasible-spec =
@@ -42,6 +53,8 @@ first-infeasible-spec =
     Inv-loop
     μ-loop
     loop-holds
+    mul-its
+    element-copy-out-its
     add-t
     infeasible-requires
     returns

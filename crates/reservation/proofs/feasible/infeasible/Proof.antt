@@ -1,34 +1,22 @@
 -- `reservation::feasible::infeasible` meets its contract: none of the machines passed ends in time.
 use Prim.Native.Nat.{_-_, _<_}
-use Rattle.placement.proofs.Sums.{less-next, task-below, task-fits, machine-below, machine-fits, machine-turn-fits}
+use Rattle.placement.proofs.Sums.{less-next, machine-below, machine-fits, machine-turn-fits}
 use Rattle.reservation.proofs.Sums.{run-fits}
-use Rattle.reservation.proofs.Feasibility.{count-at-most, AllLate, late-at-first, late-unable, late-more, late-infeasible, in-time-feasible, run-at-most}
+use Rattle.reservation.proofs.Feasibility.{AllLate, late-at-first, late-unable, late-more, late-infeasible, in-time-feasible}
 use Rattle.reservation.proofs.feasible.infeasible.Statement.{statement}
 use Rattle.reservation.proofs.feasible.infeasible.Tie as tie
 
 abbrev Inv-loop : tie.InvT-loop
-Inv-loop clock task at its table m₀ m = AllLate (table .machines) clock its m
+Inv-loop clock its table m₀ m = AllLate (table .machines) clock its m
 
 abbrev μ-loop : tie.MeasureT-loop
-μ-loop clock task at its table m₀ m = table .machines - m
-
-sub-at : tie.Need-sub-at Inv-loop μ-loop
-sub-at c = c .pre .listed .first
-
-its-below : (c : tie.Start Inv-loop μ-loop) → c .args .task - 1 < 16
-its-below c = task-below _ _ (c .pre .listed .first) (c .pre .listed .last) (count-at-most (c .pre .feasible))
-
-mul-its : tie.Need-mul-its Inv-loop μ-loop
-mul-its c = task-fits _ (its-below c)
-
-element-copy-out-its : tie.Need-element-copy-out-its Inv-loop μ-loop
-element-copy-out-its c = its-below c
+μ-loop clock its table m₀ m = table .machines - m
 
 loop-holds : tie.Need-loop-holds Inv-loop μ-loop
 loop-holds c = late-at-first _ _ _
 
 run-below : (c : tie.Then1 Inv-loop μ-loop) → c .before .before .loop .m < 4
-run-below c = machine-below _ _ (c .if1 .taken) (c .before .before .before .before .before .pre .feasible .figures .room)
+run-below c = machine-below _ _ (c .if1 .taken) (c .before .before .before .before .pre .room)
 
 mul-run : tie.Need-mul-run Inv-loop μ-loop
 mul-run c = machine-fits _ (run-below c)
@@ -47,11 +35,11 @@ loop-again c = late-unable (c .before .before .before .before .loop .inv) (c .be
 
 add-if3 : tie.Need-add-if3 Inv-loop μ-loop
 add-if3 c =
-    let start = c .before .before .before .before .before .before .before in
-    run-fits _ _ (start .pre .feasible .clock-at-most) (run-at-most _ _ _ _ (c .before .before .if1 .taken) (start .pre))
+    let ask = c .before .before .before .before .before .before .pre in
+    run-fits _ _ (ask .clock-at-most) (ask .runs _ (c .before .before .if1 .taken))
 
 returns : tie.Need-returns Inv-loop μ-loop
-returns c = in-time-feasible _ _ _ _ (c .before .before .before .if1 .taken) (c .before .if2 .left) (c .if3 .taken)
+returns c = in-time-feasible _ _ (c .before .before .before .if1 .taken) (c .before .if2 .left) (c .if3 .taken)
 
 loop-less-2 : tie.Need-loop-less-2 Inv-loop μ-loop
 loop-less-2 c = less-next _ _ (c .before .before .before .if1 .taken)
@@ -60,7 +48,7 @@ loop-again-2 : tie.Need-loop-again-2 Inv-loop μ-loop
 loop-again-2 c = late-more (c .before .before .before .before .before .loop .inv) (c .before .before .before .if1 .taken) (c .if3 .left)
 
 returns-2 : tie.Need-returns-2 Inv-loop μ-loop
-returns-2 c = late-infeasible _ _ _ _ (c .before .before .loop .inv) (c .if1 .left)
+returns-2 c = late-infeasible _ _ (c .before .before .loop .inv) (c .if1 .left)
 
 pub infeasible-spec : {M : Type 1} → statement M
 infeasible-spec =
@@ -68,9 +56,6 @@ infeasible-spec =
     (tie.spec
     Inv-loop
     μ-loop
-    sub-at
-    mul-its
-    element-copy-out-its
     loop-holds
     mul-run
     element-copy-out-run

@@ -1,25 +1,23 @@
 -- `reservation::feasible::is_held` meets its contract: none of the rows passed carries the number.
-use mathlib.Core.Path.{_≡_}
+use mathlib.Core.Path.{sym, ap, _∙_}
 use Prim.Native.Nat.{_-_}
 use native.Mathlib.Omega.{arith}
-use lib.ListN.{length}
+use lib.Dec.{eqb}
 use borrow.Author.Tests.{eq-eqb, ne-eqb}
-use Rattle.rules.specs.Words.{of-job, row-limit}
-use Rattle.placement.proofs.Tasks.{length-mapped}
+use Rattle.rules.specs.Words.{of-job}
+use Rattle.reservation.specs.Calls.{WithJobs}
 use Rattle.reservation.proofs.Feasibility.{NoneYet, none-at-first, none-more, none-at-end, one-passes}
 use Rattle.reservation.proofs.feasible.is_held.Statement.{statement}
 use Rattle.reservation.proofs.feasible.is_held.Tie as tie
 
 abbrev Inv-loop : tie.InvT-loop
-Inv-loop count number rows i₀ i = NoneYet (of-job number) rows count i
+Inv-loop jobs count number i₀ i = WithJobs jobs count (λ rows. NoneYet (of-job number) rows count i)
 
 abbrev μ-loop : tie.MeasureT-loop
-μ-loop count number rows i₀ i = count - i
+μ-loop jobs count number i₀ i = count - i
 
 loop-holds : tie.Need-loop-holds Inv-loop μ-loop
-loop-holds c =
-    let long : length (c .args .t1) ≡ row-limit = search length-mapped in
-    none-at-first (omega arith)
+loop-holds c = λ rows jobs l. none-at-first (omega arith)
 
 mul-job : tie.Need-mul-job Inv-loop μ-loop
 mul-job c = omega arith
@@ -28,7 +26,13 @@ element-copy-out-job : tie.Need-element-copy-out-job Inv-loop μ-loop
 element-copy-out-job c = omega arith
 
 returns : tie.Need-returns Inv-loop μ-loop
-returns c = one-passes (c .before .before .loop .inv) (c .before .loop-test .taken) (eq-eqb _ _ (c .if1 .taken))
+returns c =
+    let turn = c .before .before in
+    λ rows jobs l.
+    one-passes
+    (turn .before .loop .inv rows jobs l)
+    (turn .loop-test .taken)
+    (ap (λ x. eqb x (turn .before .before .args .number)) (sym (jobs .is _ (turn .loop-test .taken))) ∙ eq-eqb _ _ (c .if1 .taken))
 
 add-i : tie.Need-add-i Inv-loop μ-loop
 add-i c = omega arith
@@ -37,10 +41,16 @@ loop-less : tie.Need-loop-less Inv-loop μ-loop
 loop-less c = omega arith
 
 loop-again : tie.Need-loop-again Inv-loop μ-loop
-loop-again c = none-more (c .before .before .loop .inv) (c .before .loop-test .taken) (ne-eqb _ _ (c .if1 .left))
+loop-again c =
+    let turn = c .before .before in
+    λ rows jobs l.
+    none-more
+    (turn .before .loop .inv rows jobs l)
+    (turn .loop-test .taken)
+    (ap (λ x. eqb x (turn .before .before .args .number)) (sym (jobs .is _ (turn .loop-test .taken))) ∙ ne-eqb _ _ (c .if1 .left))
 
 returns-2 : tie.Need-returns-2 Inv-loop μ-loop
-returns-2 c = none-at-end (c .before .loop .inv) (c .loop-test .left)
+returns-2 c = λ rows jobs l. none-at-end (c .before .loop .inv rows jobs l) (c .loop-test .left)
 
 pub is-held-spec : {M : Type 1} → statement M
 is-held-spec =

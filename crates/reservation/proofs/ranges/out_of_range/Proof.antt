@@ -1,9 +1,9 @@
 -- `reservation::ranges::out_of_range` meets its contract: the figures of the first t tasks are in range.
-use mathlib.Core.Path.{sym, _∙_}
-use Prim.Native.Nat.{_-_}
+use Prim.Native.Nat.{_-_, _<_}
 use native.Mathlib.Omega.{arith}
 use Rattle.rules.specs.Refusals.{task-out-of-range}
-use Rattle.reservation.proofs.Ranged.{NoneOf, none-first, none-more, scheduling-outside, task-outside, tasks-inside}
+use Rattle.placement.proofs.Sums.{less-next, task-turn-below, task-turn-fits, task-fits}
+use Rattle.reservation.proofs.Ranged.{counts-in-range, NoneOf, none-first, scheduling-outside, task-inside, task-outside, tasks-inside}
 use Rattle.reservation.proofs.ranges.out_of_range.Statement.{statement}
 use Rattle.reservation.proofs.ranges.out_of_range.Tie as tie
 
@@ -14,30 +14,57 @@ abbrev μ-loop : tie.MeasureT-loop
 μ-loop s job t₀ t = job .taskcount - t
 
 returns : tie.Need-returns Inv-loop μ-loop
-returns c = scheduling-outside (c .before .before .pre) (c .if1 .taken)
+returns c = scheduling-outside (c .before .pre) (c .if1 .taken)
 
 loop-holds : tie.Need-loop-holds Inv-loop μ-loop
 loop-holds c = none-first
 
+its-below : (c : tie.In-loop Inv-loop μ-loop) → c .before .loop .t < 16
+its-below c = task-turn-below _ _ (c .loop-test .taken) (counts-in-range (c .before .before .before .pre .counts) .tasks-at-most)
+
+mul-its : tie.Need-mul-its Inv-loop μ-loop
+mul-its c = task-fits _ (its-below c)
+
+element-copy-out-its : tie.Need-element-copy-out-its Inv-loop μ-loop
+element-copy-out-its c = its-below c
+
 add-t : tie.Need-add-t Inv-loop μ-loop
-add-t c = omega arith
+add-t c = task-turn-fits _ 16 (its-below (c .before)) (omega arith)
 
 figures-outside-requires : tie.Need-figures-outside-requires Inv-loop μ-loop
-figures-outside-requires c κs = record { figures = c .before .before .before .before .before .pre; listed = record { first = omega arith; last = omega arith } }
+figures-outside-requires c κs = c .before .before .before .before .pre .room
 
 returns-2 : tie.Need-returns-2 Inv-loop μ-loop
 returns-2 c =
-    let at = c .before .before .before .before in
-    task-outside (at .before .before .before .pre) (at .loop .inv) (c .before .before .if2 .taken) (sym (c .before .figures-outside .ensures) ∙ c .if3 .taken)
+    let at = c .before .before .before in
+    task-outside (at .before .before .before .pre) (at .before .loop .inv) (at .loop-test .taken) (c .before .figures-outside .ensures) (c .if2 .taken)
 
 loop-less : tie.Need-loop-less Inv-loop μ-loop
-loop-less c = omega arith
+loop-less c = less-next _ _ (c .before .before .before .loop-test .taken)
 
 loop-again : tie.Need-loop-again Inv-loop μ-loop
-loop-again c = none-more (c .before .before .before .before .loop .inv) (c .before .before .if2 .taken) (sym (c .before .figures-outside .ensures) ∙ c .if3 .left)
+loop-again c =
+    let at = c .before .before .before in
+    task-inside (at .before .before .before .pre) (at .before .loop .inv) (at .loop-test .taken) (c .before .figures-outside .ensures) (c .if2 .left)
 
 returns-3 : tie.Need-returns-3 Inv-loop μ-loop
-returns-3 c = let at = c .before .before in tasks-inside (at .before .before .before .pre) (at .loop .inv) (c .if2 .left) (at .before .if1 .left)
+returns-3 c =
+    let at = c .before in
+    tasks-inside (at .before .before .pre) (at .loop .inv) (c .loop-test .left) (at .before .if1 .left)
 
 pub out-of-range-spec : {M : Type 1} → statement M
-out-of-range-spec = tie.close (tie.spec Inv-loop μ-loop returns loop-holds add-t figures-outside-requires returns-2 loop-less loop-again returns-3)
+out-of-range-spec =
+    tie.close
+    (tie.spec
+    Inv-loop
+    μ-loop
+    returns
+    loop-holds
+    mul-its
+    element-copy-out-its
+    add-t
+    figures-outside-requires
+    returns-2
+    loop-less
+    loop-again
+    returns-3)

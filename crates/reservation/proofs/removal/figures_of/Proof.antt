@@ -1,24 +1,22 @@
--- `reservation::removal::figures_of` meets its contract: the first i entries of both columns are made.
-use mathlib.Core.Path.{_≡_, refl, sym, ap, _∙_, subst}
-use mathlib.Core.Bool.{false}
-use Prim.Native.Nat.{_-_, _≤_, _<_}
-use native.Mathlib.Omega.{arith}
+-- `reservation::removal::figures_of` meets its contract: the first i entries of each column are made.
+use mathlib.Core.Path.{refl}
+use Prim.Native.Nat.{_-_, _<_}
 use native.Mathlib.Numerals.{add-one}
 use Rattle.placement.proofs.Sums.{less-next}
 use Rattle.reservation.proofs.Sums.{slot-below, slot-fits, slot-word-fits, slot-turn-fits}
-use Rattle.reservation.proofs.Removed.{Made, made-none, made-more}
+use Rattle.placement.proofs.Made.{Made, made-none, made-more, made-column}
 use Rattle.reservation.proofs.removal.figures_of.Statement.{statement}
 use Rattle.reservation.proofs.removal.figures_of.Tie as tie
 
 abbrev Inv-loop : tie.InvT-loop
 Inv-loop count rows figures₀ i₀ figures i =
-    (i ≤ count) × Made 0 (λ row. row .job) rows (figures .jobs) i × Made 0 (λ row. row .finish) rows (figures .finishes) i
+    Made 0 (λ row. row .job) rows (figures .jobs) i × Made 0 (λ row. row .start) rows (figures .starts) i × Made 0 (λ row. row .finish) rows (figures .finishes) i
 
 abbrev μ-loop : tie.MeasureT-loop
 μ-loop count rows figures₀ i₀ figures i = count - i
 
 loop-holds : tie.Need-loop-holds Inv-loop μ-loop
-loop-holds c = (omega arith, made-none 0 _ _ _ refl, made-none 0 _ _ _ refl)
+loop-holds c = (made-none 0 _ _ _ refl, made-none 0 _ _ _ refl, made-none 0 _ _ _ refl)
 
 row-below : (c : tie.In-loop Inv-loop μ-loop) → c .before .loop .i < 256
 row-below c = slot-below _ _ (c .loop-test .taken) (c .before .before .pre)
@@ -47,6 +45,18 @@ mul-figures-4 c = slot-word-fits _ (row-below c)
 element-write-figures-2 : tie.Need-element-write-figures-2 Inv-loop μ-loop
 element-write-figures-2 c = row-below c
 
+mul-figures-5 : tie.Need-mul-figures-5 Inv-loop μ-loop
+mul-figures-5 c = slot-fits _ (row-below c)
+
+element-copy-out-figures-3 : tie.Need-element-copy-out-figures-3 Inv-loop μ-loop
+element-copy-out-figures-3 c = row-below c
+
+mul-figures-6 : tie.Need-mul-figures-6 Inv-loop μ-loop
+mul-figures-6 c = slot-word-fits _ (row-below c)
+
+element-write-figures-3 : tie.Need-element-write-figures-3 Inv-loop μ-loop
+element-write-figures-3 c = row-below c
+
 add-i : tie.Need-add-i Inv-loop μ-loop
 add-i c = slot-turn-fits _ (row-below c)
 
@@ -55,16 +65,15 @@ loop-less c = less-next _ _ (c .loop-test .taken)
 
 loop-again : tie.Need-loop-again Inv-loop μ-loop
 loop-again c =
-    let at = c .before in
-    rw
-    (add-one (at .loop .i))
-    (c .loop-test .taken, made-more (at .loop .inv .1) (row-below c) _ refl, made-more (at .loop .inv .2) (row-below c) _ refl)
+    let at = c .before .loop in
+    let below = row-below c in
+    rw (add-one (at .i)) (made-more (at .inv .0) below _ refl, made-more (at .inv .1) below _ refl, made-more (at .inv .2) below _ refl)
 
 returns : tie.Need-returns Inv-loop μ-loop
 returns c =
-    let jobs = c .before .loop .inv .1 in
-    let finishes = c .before .loop .inv .2 in
-    (record { long = jobs .long; is = λ i h. jobs .is i (omega arith) }, record { long = finishes .long; is = λ i h. finishes .is i (omega arith) })
+    let made = c .before .loop .inv in
+    let all = c .loop-test .left in
+    (made-column (made .0) all, (made-column (made .1) all, made-column (made .2) all))
 
 pub figures-of-spec : {M : Type 1} → statement M
-figures-of-spec = tie.close (tie.spec Inv-loop μ-loop loop-holds mul-figures element-copy-out-figures mul-figures-2 element-write-figures mul-figures-3 element-copy-out-figures-2 mul-figures-4 element-write-figures-2 add-i loop-less loop-again returns)
+figures-of-spec = tie.close (tie.spec Inv-loop μ-loop loop-holds mul-figures element-copy-out-figures mul-figures-2 element-write-figures mul-figures-3 element-copy-out-figures-2 mul-figures-4 element-write-figures-2 mul-figures-5 element-copy-out-figures-3 mul-figures-6 element-write-figures-3 add-i loop-less loop-again returns)

@@ -1,77 +1,82 @@
--- `reservation::removal::rows_ended` meets its contract: the first i entries say whether the row's job has ended. (The rows are moved away before the loop: it is said of all rows whose columns these are.)
-use mathlib.Core.Path.{_≡_, refl, sym, ap, _∙_, subst}
-use mathlib.Core.Bool.{false}
-use Prim.Native.Nat.{_-_, _≤_, _<_}
+-- `reservation::removal::rows_ended` meets its contract: the first i entries say whether the row's job has ended, and the answer for the job asked last is at hand.
+use mathlib.Core.Path.{refl, sym, _∙_}
+use mathlib.Core.Logic.{⊎-elim}
+use Prim.Native.Nat.{_-_, _<_}
 use native.Mathlib.Omega.{arith}
 use native.Mathlib.Numerals.{add-one}
-use mathlib.Core.List.{List}
 use Rattle.placement.proofs.Sums.{less-next}
-use Rattle.reservation.proofs.Sums.{slot-below, slot-turn-fits}
-use lib.ListN.{length, take}
-use borrow.Author.Needs.{needs}
-use Rattle.placement.proofs.Tasks.{length-mapped}
-use Rattle.rules.specs.declared.Row.{Row}
-use Rattle.rules.specs.Sequences.{keep}
-use Rattle.rules.specs.Words.{of-job, row-limit}
-use Rattle.rules.specs.Withdrawing.{ended}
-use Rattle.reservation.specs.Calls.{ColumnOf}
-use Rattle.reservation.proofs.Removed.{Made, made-none, made-more}
+use Rattle.reservation.proofs.Sums.{slot-below, slot-word-fits, slot-turn-fits}
+use borrow.Author.Tests.{lt-ltb}
+use Rattle.reservation.proofs.Scans.{found-one, found-ended}
+use Rattle.reservation.proofs.Removed.{Ending, ending-none, ending-more, ending-all}
 use Rattle.reservation.proofs.removal.rows_ended.Statement.{statement}
 use Rattle.reservation.proofs.removal.rows_ended.Tie as tie
 
 abbrev Inv-loop : tie.InvT-loop
-Inv-loop count tick figures leaves₀ i₀ leaves i =
-    (i ≤ count)
-    × ((rows : List Row) → ColumnOf (λ row. row .job) rows count (figures .jobs) → ColumnOf (λ row. row .finish) rows count (figures .finishes) → length rows ≡ row-limit →
-    Made false (λ row. ended tick (keep (of-job (row .job)) (take count rows))) rows leaves i)
+Inv-loop jobs finishes count tick leaves₀ asked₀ gone₀ i₀ leaves asked gone i = Ending jobs finishes count tick leaves asked gone i
 
 abbrev μ-loop : tie.MeasureT-loop
-μ-loop count tick figures leaves₀ i₀ leaves i = count - i
+μ-loop jobs finishes count tick leaves₀ asked₀ gone₀ i₀ leaves asked gone i = count - i
 
-figures-of-requires : tie.Need-figures-of-requires Inv-loop μ-loop
-figures-of-requires c κs = c .pre
+element-copy-out-asked : tie.Need-element-copy-out-asked Inv-loop μ-loop
+element-copy-out-asked c = omega arith
+
+job-ended-requires : tie.Need-job-ended-requires Inv-loop μ-loop
+job-ended-requires c κs = c .before .pre
 
 loop-holds : tie.Need-loop-holds Inv-loop μ-loop
-loop-holds c = (omega arith, λ rows a b l. made-none false _ rows _ refl)
+loop-holds c = ending-none _ refl (c .job-ended .ensures)
 
 row-below : (c : tie.In-loop Inv-loop μ-loop) → c .before .loop .i < 256
-row-below c = slot-below _ _ (c .loop-test .taken) (c .before .before .before .pre)
+row-below c = slot-below _ _ (c .loop-test .taken) (c .before .before .before .before .pre)
 
-job-of-row-ended-requires : tie.Need-job-of-row-ended-requires Inv-loop μ-loop
-job-of-row-ended-requires c κs = (record { count-at-most = c .before .before .before .before .before .before .pre }, c .before .before .before .loop-test .taken)
+mul-job : tie.Need-mul-job Inv-loop μ-loop
+mul-job c = slot-word-fits _ (row-below c)
+
+element-copy-out-job : tie.Need-element-copy-out-job Inv-loop μ-loop
+element-copy-out-job c = row-below c
+
+mul-own : tie.Need-mul-own Inv-loop μ-loop
+mul-own c = slot-word-fits _ (row-below (c .before))
+
+element-copy-out-own : tie.Need-element-copy-out-own Inv-loop μ-loop
+element-copy-out-own c = row-below (c .before)
+
+abbrev start : tie.In-loop Inv-loop μ-loop → tie.Start Inv-loop μ-loop
+start c = c .before .before .before .before
+
+job-ended-requires-2 : tie.Need-job-ended-requires-2 Inv-loop μ-loop
+job-ended-requires-2 c κs = start (c .before .before .before .before) .pre
 
 array-write-leaves : tie.Need-array-write-leaves Inv-loop μ-loop
-array-write-leaves c = row-below (c .before .before .before .before)
+array-write-leaves c = row-below (c .before .before .before)
 
 add-i : tie.Need-add-i Inv-loop μ-loop
-add-i c = slot-turn-fits _ (row-below (c .before .before .before .before))
+add-i c = slot-turn-fits _ (row-below (c .before .before .before))
 
 loop-less : tie.Need-loop-less Inv-loop μ-loop
-loop-less c = less-next _ _ (c .before .before .before .before .loop-test .taken)
+loop-less c = less-next _ _ (c .before .before .before .loop-test .taken)
 
+-- the row is still to end, or its job was asked just now, or its job is the one asked last
 loop-again : tie.Need-loop-again Inv-loop μ-loop
 loop-again c =
-    let at = c .before .before .before .before .before in
-    let a = at .before .before .args in
-    let h = c .before .before .before .before .loop-test .taken in
+    let turn = c .before .before .before in
+    let at = turn .before .loop in
+    let few = start turn .pre in
+    let more = turn .loop-test .taken in
     rw
-    (add-one (at .loop .i)) (
-      h,
-      λ rows jobs finishes l.
-          made-more
-          (at .loop .inv .1 rows jobs finishes l)
-          (row-below (c .before .before .before .before))
-          (c .job-of-row-ended .result)
-          (c .job-of-row-ended .ensures rows jobs finishes l ∙ ap (λ n. ended (a .tick) (keep (of-job n) (take (a .count) rows))) (jobs .is (at .loop .i) h)),
-    )
+    (add-one (at .i))
+    (ending-more
+    (at .inv)
+    few
+    more
+    (⊎-elim
+    (λ w. (sym (w .1), rw (w .1, w .2) (found-ended _ _ _ _ _ (found-one _ _ _ _ _ _ few more refl (lt-ltb _ _ (w .0 .taken))))))
+    (⊎-elim (λ w. (sym (w .3), rw (w .3, w .4) (w .2 .ensures))) (λ w. (w .1 .left ∙ sym (w .2), rw (w .2, w .3) (at .inv .known))))
+    (c .if1 .came)))
 
 returns : tie.Need-returns Inv-loop μ-loop
-returns c =
-    let at = c .before in
-    let start = at .before .before in
-    let long : length (start .args .rows) ≡ row-limit = search (length-mapped, needs) in
-    let m = at .loop .inv .1 (start .args .rows) (at .before .figures-of .ensures .0) (at .before .figures-of .ensures .1) long in
-    record { long = m .long; is = λ i h. m .is i (omega arith) }
+returns c = ending-all (c .before .loop .inv) (c .loop-test .left)
 
 pub rows-ended-spec : {M : Type 1} → statement M
-rows-ended-spec = tie.close (tie.spec Inv-loop μ-loop figures-of-requires loop-holds job-of-row-ended-requires array-write-leaves add-i loop-less loop-again returns)
+rows-ended-spec = tie.close (tie.spec Inv-loop μ-loop element-copy-out-asked job-ended-requires loop-holds mul-job element-copy-out-job mul-own element-copy-out-own job-ended-requires-2 array-write-leaves add-i loop-less loop-again returns)

@@ -1,23 +1,25 @@
 -- `reservation::removal::rows_of` meets its contract: the first i entries say which rows are the job's.
-use mathlib.Core.Path.{_≡_, refl, sym, ap, _∙_, subst}
+use mathlib.Core.Path.{refl, ap}
 use mathlib.Core.Bool.{false}
-use Prim.Native.Nat.{_-_, _≤_, _<_}
+use Prim.Native.Nat.{_-_}
 use native.Mathlib.Omega.{arith}
 use native.Mathlib.Numerals.{add-one}
+use lib.Dec.{eqb}
 use Rattle.rules.specs.Words.{of-job}
-use Rattle.reservation.proofs.Removed.{Made, made-none, made-more}
+use Rattle.reservation.specs.Calls.{WithJobs}
+use Rattle.placement.proofs.Made.{Made, made-none, made-more}
+use Rattle.reservation.proofs.Removed.{made-mask}
 use Rattle.reservation.proofs.removal.rows_of.Statement.{statement}
 use Rattle.reservation.proofs.removal.rows_of.Tie as tie
 
 abbrev Inv-loop : tie.InvT-loop
-Inv-loop count number rows leaves₀ i₀ leaves i =
-    (i ≤ count) × Made false (of-job number) rows leaves i
+Inv-loop jobs count number leaves₀ i₀ leaves i = WithJobs jobs count (λ rows. Made false (of-job number) rows leaves i)
 
 abbrev μ-loop : tie.MeasureT-loop
-μ-loop count number rows leaves₀ i₀ leaves i = count - i
+μ-loop jobs count number leaves₀ i₀ leaves i = count - i
 
 loop-holds : tie.Need-loop-holds Inv-loop μ-loop
-loop-holds c = (omega arith, made-none false _ _ _ refl)
+loop-holds c = λ rows jobs l. made-none false _ rows _ refl
 
 mul-job : tie.Need-mul-job Inv-loop μ-loop
 mul-job c = omega arith
@@ -36,13 +38,14 @@ loop-less c = omega arith
 
 loop-again : tie.Need-loop-again Inv-loop μ-loop
 loop-again c =
-    let at = c .before in
-    (omega arith, rw (add-one (at .loop .i)) (made-more (at .loop .inv .1) (omega arith) _ refl))
+    let at = c .before .before in
+    λ rows jobs l.
+    rw
+    (add-one (at .loop .i))
+    (made-more (at .loop .inv rows jobs l) (omega arith) _ (ap (λ x. eqb x (at .before .args .number)) (jobs .is (at .loop .i) (c .before .loop-test .taken))))
 
 returns : tie.Need-returns Inv-loop μ-loop
-returns c =
-    let m = c .before .loop .inv .1 in
-    record { long = m .long; is = λ i h. m .is i (omega arith) }
+returns c = λ rows jobs l. made-mask (c .before .loop .inv rows jobs l) (c .loop-test .left)
 
 pub rows-of-spec : {M : Type 1} → statement M
 rows-of-spec = tie.close (tie.spec Inv-loop μ-loop loop-holds mul-job element-copy-out-job array-write-leaves add-i loop-less loop-again returns)

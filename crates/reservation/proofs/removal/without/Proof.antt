@@ -8,11 +8,11 @@ use Rattle.reservation.proofs.removal.without.Statement.{statement}
 use Rattle.reservation.proofs.removal.without.Tie as tie
 
 abbrev Inv-loop : tie.InvT-loop
-Inv-loop register leaves rows₀ kept₀ total₀ count i₀ rows kept total i =
+Inv-loop clock register leaves rows₀ kept₀ total₀ count i₀ rows kept total i =
     Removing register leaves rows kept total i
 
 abbrev μ-loop : tie.MeasureT-loop
-μ-loop register leaves rows₀ kept₀ total₀ count i₀ rows kept total i = register .count - i
+μ-loop clock register leaves rows₀ kept₀ total₀ count i₀ rows kept total i = register .count - i
 
 blank-requires : tie.Need-blank-requires Inv-loop μ-loop
 blank-requires c κs = tt
@@ -69,7 +69,7 @@ loop-again-2 c =
     rw (add-one (at .loop .i), add-one (at .loop .kept)) (removing-stays (at .before .before .pre) (at .loop .inv) (c .before .before .loop-test .taken) (c .if1 .left))
 
 returns : tie.Need-returns Inv-loop μ-loop
-returns c = removing-all (c .before .before .before .before .pre) (c .before .before .loop .inv) (c .before .loop-test .left)
+returns c = removing-all (c .before .before .before .before .pre) (c .before .before .loop .inv) (c .before .loop-test .left) _
 
 pub without-spec : {M : Type 1} → statement M
 without-spec = tie.close (tie.spec Inv-loop μ-loop blank-requires loop-holds mul-row element-copy-out-row array-read-gone add-i sub-total loop-less loop-again mul-rows array-set-from-rows add-kept loop-less-2 loop-again-2 returns)

@@ -2,7 +2,7 @@
 use mathlib.Core.Path.{_≡_, refl, sym, ap, _∙_}
 use native.Mathlib.Omega.{arith}
 use borrow.Author.Needs.{needs}
-use Rattle.reservation.proofs.Stepped.{early-0, early-1, early-2, early-3, early-4, early-5}
+use Rattle.reservation.proofs.Stepped.{early-0, early-1, early-2, early-3, early-4}
 use Rattle.reservation.proofs.submission.early.Statement.{statement}
 use Rattle.reservation.proofs.submission.early.Tie as tie
 
@@ -19,25 +19,19 @@ returns-2 : tie.Need-returns-2
 returns-2 c = early-2 (sym (c .before .before .before .number-outside .ensures) ∙ c .before .before .if1 .left) (sym (c .before .miscounted .ensures) ∙ c .if2 .taken)
 
 out-of-range-requires : tie.Need-out-of-range-requires
-out-of-range-requires c κs = record { room = c .before .before .before .before .before .pre .sound .room; counts = (sym (c .before .before .miscounted .ensures) ∙ c .before .if2 .left) }
+out-of-range-requires c κs = record { room = c .before .before .before .before .pre; counts = (sym (c .before .miscounted .ensures) ∙ c .if2 .left) }
 
 returns-3 : tie.Need-returns-3
-returns-3 c = early-3 (sym (c .before .before .before .before .before .before .number-outside .ensures) ∙ c .before .before .before .before .before .if1 .left) (sym (c .before .before .before .before .miscounted .ensures) ∙ c .before .before .before .if2 .left) (sym (c .before .out-of-range .ensures) ∙ c .if3 .taken)
+returns-3 c = early-3 (sym (c .before .before .before .before .before .number-outside .ensures) ∙ c .before .before .before .before .if1 .left) (sym (c .before .before .before .miscounted .ensures) ∙ c .before .before .if2 .left) (sym (c .before .out-of-range .ensures) ∙ c .if3 .taken)
 
 bad-messages-requires : tie.Need-bad-messages-requires
-bad-messages-requires c κs = (sym (c .before .before .before .before .miscounted .ensures) ∙ c .before .before .before .if2 .left)
+bad-messages-requires c κs = (sym (c .before .before .before .miscounted .ensures) ∙ c .before .before .if2 .left)
 
 returns-4 : tie.Need-returns-4
-returns-4 c = early-4 (sym (c .before .before .before .before .before .before .before .before .number-outside .ensures) ∙ c .before .before .before .before .before .before .before .if1 .left) (sym (c .before .before .before .before .before .before .miscounted .ensures) ∙ c .before .before .before .before .before .if2 .left) (sym (c .before .before .before .out-of-range .ensures) ∙ c .before .before .if3 .left) (sym (c .before .bad-messages .ensures) ∙ c .if4 .taken)
-
-is-held-requires : tie.Need-is-held-requires
-is-held-requires c κs = c .before .before .before .before .before .before .before .before .before .before .pre .count-at-most
+returns-4 c = early-4 (sym (c .before .before .before .before .before .before .before .number-outside .ensures) ∙ c .before .before .before .before .before .before .if1 .left) (sym (c .before .before .before .before .before .miscounted .ensures) ∙ c .before .before .before .before .if2 .left) (sym (c .before .before .before .out-of-range .ensures) ∙ c .before .before .if3 .left) (sym (c .before .bad-messages .ensures) ∙ c .if4 .taken)
 
 returns-5 : tie.Need-returns-5
-returns-5 c = early-5 (sym (c .before .before .before .before .before .before .before .before .before .before .before .number-outside .ensures) ∙ c .before .before .before .before .before .before .before .before .before .before .if1 .left) (sym (c .before .before .before .before .before .before .before .before .before .miscounted .ensures) ∙ c .before .before .before .before .before .before .before .before .if2 .left) (sym (c .before .before .before .before .before .before .out-of-range .ensures) ∙ c .before .before .before .before .before .if3 .left) (sym (c .before .before .before .before .bad-messages .ensures) ∙ c .before .before .before .if4 .left) (sym (c .before .is-held .ensures) ∙ c .if5 .taken)
-
-returns-6 : tie.Need-returns-6
-returns-6 c = early-0 (sym (c .before .before .before .before .before .before .before .before .before .before .before .number-outside .ensures) ∙ c .before .before .before .before .before .before .before .before .before .before .if1 .left) (sym (c .before .before .before .before .before .before .before .before .before .miscounted .ensures) ∙ c .before .before .before .before .before .before .before .before .if2 .left) (sym (c .before .before .before .before .before .before .out-of-range .ensures) ∙ c .before .before .before .before .before .if3 .left) (sym (c .before .before .before .before .bad-messages .ensures) ∙ c .before .before .before .if4 .left) (sym (c .before .is-held .ensures) ∙ c .if5 .left)
+returns-5 c = early-0 (sym (c .before .before .before .before .before .before .before .number-outside .ensures) ∙ c .before .before .before .before .before .before .if1 .left) (sym (c .before .before .before .before .before .miscounted .ensures) ∙ c .before .before .before .before .if2 .left) (sym (c .before .before .before .out-of-range .ensures) ∙ c .before .before .if3 .left) (sym (c .before .bad-messages .ensures) ∙ c .if4 .left)
 
 pub early-spec : {M : Type 1} → statement M
-early-spec = tie.close (tie.spec number-outside-requires returns miscounted-requires returns-2 out-of-range-requires returns-3 bad-messages-requires returns-4 is-held-requires returns-5 returns-6)
+early-spec = tie.close (tie.spec number-outside-requires returns miscounted-requires returns-2 out-of-range-requires returns-3 bad-messages-requires returns-4 returns-5)

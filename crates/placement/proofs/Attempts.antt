@@ -35,6 +35,8 @@ module _
     {rows : List Row}
     {count arrived cost : ℕ}
     (found : InputsAre s j machines done t m release resources starts finishes used resources′ starts′ finishes′ rows count arrived cost)
+    {run : ℕ}
+    (run-is : run ≡ run-time j t m)
   where
     still-lasting : Lasting starts′ finishes′ used
     still-lasting =
@@ -46,11 +48,12 @@ module _
           ends = λ i h. let end = was .ends i h in rw (found .same .finishes-same i h) (omega arith);
         }
 
-    pub attempt-searchable : Searchable starts′ finishes′ used arrived (run-time j t m)
+    pub attempt-searchable : Searchable starts′ finishes′ used arrived run
     attempt-searchable =
         let late = found .arrived-at-most in
         let most = ask .run-at-most in
-        record { spans = still-lasting; from-below = omega arith; len-above = ask .able; len-below = omega arith }
+        let able = ask .able in
+        record { spans = still-lasting; from-below = omega arith; len-above = omega (arith, run-is); len-below = omega (arith, run-is) }
 
     pub attempt-there : HasMachine m
     attempt-there =
@@ -59,14 +62,17 @@ module _
         let most = ask .inputs .sound .room in
         record { first = low; last = omega arith }
 
-    module _ (start : ℕ) (sought : start ≡ least-free arrived (run-time j t m) (spans-of m resources′ starts′ finishes′ used)) where
+    module _ (start : ℕ) (found-at : start ≡ least-free arrived run (spans-of m resources′ starts′ finishes′ used)) where
+      sought : start ≡ least-free arrived (run-time j t m) (spans-of m resources′ starts′ finishes′ used)
+      sought = found-at ∙ ap (λ r. least-free arrived r (spans-of m resources′ starts′ finishes′ used)) run-is
+
       start-below : start < tick-bound
       start-below =
           let late = found .arrived-at-most in
           rw sought (least-below m resources′ starts′ finishes′ used arrived (run-time j t m) still-lasting (omega arith))
 
-      pub ask-own : AskTaskRow s m (run-time j t m) start
-      ask-own = record { sound = ask .inputs .sound; there = attempt-there; run-at-most = ask .run-at-most; start-below = start-below }
+      pub ask-own : AskTaskRow s m run start
+      ask-own = record { sound = ask .inputs .sound; there = attempt-there; run-at-most = rw run-is (ask .run-at-most); start-below = start-below }
 
       module _ (own : Row) (made : own ≡ task-booking s j t m start) where
         pub own-figures : (count < most-messages + 1) × (cost + own .cost ≤ (most-messages + 1) * largest-cost) × (own .finish < 2 ^ 41)
@@ -76,7 +82,7 @@ module _
             let spent = found .cost-at-most in
             let run = ask .run-at-most in
             let below = start-below in
-            let price : own .cost ≤ largest-cost = rw made (task-cost-at-most ask-own) in
+            let price : own .cost ≤ largest-cost = rw (made, ← run-is) (task-cost-at-most ask-own) in
             let ends : own .finish ≡ start + run-time j t m = ap (λ row. row .finish) made in
             (omega arith, omega arith, omega arith)
 

@@ -19,7 +19,7 @@ use Rattle.placement.specs.Asked.{Numbered, on-machine, on-link}
 use Rattle.placement.specs.Placements.{AskPlaceAmong}
 use Rattle.placement.proofs.Placed.{listed-numbered}
 use Rattle.placement.specs.Passes.{NextOf, AfterLastOf}
-use Rattle.placement.specs.Chains.{keys, nodes, ChainOn, ChainBack, AskChain, Chained, AskAlong}
+use Rattle.placement.specs.Chains.{keys, nodes, ChainOn, ChainBack, Keyed, Chained, AskAlong}
 
 -- Steps.
 
@@ -118,7 +118,7 @@ on-none rs count =
     }
 
 on-more :
-    {rs : List ℕ} {count : ℕ} {nexts : List ℕ} {left : ℕ} → AskChain rs count → MadeOn rs count nexts (left + 1) →
+    {rs : List ℕ} {count : ℕ} {nexts : List ℕ} {left : ℕ} → Keyed rs count → MadeOn rs count nexts (left + 1) →
     MadeOn rs count (set (set nexts (keys + left) (getD nexts (getD rs left 0) 0)) (getD rs left 0) left) left
 on-more {rs} {count} {nexts} {left} ask made =
     let within = made .within in
@@ -149,7 +149,7 @@ on-more {rs} {count} {nexts} {left} ask made =
     }
 
 pub on-down :
-    {rs : List ℕ} {count : ℕ} {nexts : List ℕ} {left : ℕ} → AskChain rs count → MadeOn rs count nexts left → 0 < left →
+    {rs : List ℕ} {count : ℕ} {nexts : List ℕ} {left : ℕ} → Keyed rs count → MadeOn rs count nexts left → 0 < left →
     MadeOn rs count (set (set nexts (keys + (left - 1)) (getD nexts (getD rs (left - 1) 0) 0)) (getD rs (left - 1) 0) (left - 1)) (left - 1)
 on-down {rs} {count} {nexts} {left} ask made more =
     let one : left ≡ left - 1 + 1 = omega arith in
@@ -187,7 +187,7 @@ back-none rs count =
     }
 
 pub back-more :
-    {rs : List ℕ} {count : ℕ} {backs : List ℕ} {i : ℕ} → AskChain rs count → MadeBack rs count backs i → i < count →
+    {rs : List ℕ} {count : ℕ} {backs : List ℕ} {i : ℕ} → Keyed rs count → MadeBack rs count backs i → i < count →
     MadeBack rs count (set (set backs (keys + i) (getD backs (getD rs i 0) 0)) (getD rs i 0) (i + 1)) (i + 1)
 back-more {rs} {count} {backs} {i} ask made more =
     let few = ask .few in
@@ -292,9 +292,9 @@ unfolding key held-by
 numbered-known (on-machine is) = machine-known is
 numbered-known (on-link is) = link-known is
 
--- what placing asks is what chains ask
-pub ask-chain : {s : Setup} {clock : ℕ} {j : Job} {resources starts finishes : List ℕ} {count : ℕ} → AskPlaceAmong s clock j resources starts finishes count → AskChain resources count
-ask-chain {resources = resources} {count = count} among =
+-- the columns that placing reads are those of rows in range
+pub place-keyed : {s : Setup} {clock : ℕ} {j : Job} {resources starts finishes : List ℕ} {count : ℕ} → AskPlaceAmong s clock j resources starts finishes count → Keyed resources count
+place-keyed {resources = resources} {count = count} among =
     let H = take count (among .held) in
     record {
       few = among .ask .count-at-most;

@@ -237,7 +237,7 @@ pub record Chosen
       release ≡ rules-release clock j new t → IsBest s clock held j new t n kept
 
 -- the run time that code reads at a place
-run-at : (j : Job) (t n : ℕ) → run-time j t (n + 1) ≡ getD (task-of j t .runs) n 0
+pub run-at : (j : Job) (t n : ℕ) → run-time j t (n + 1) ≡ getD (task-of j t .runs) n 0
 run-at j t n = let same : n + 1 - 1 ≡ n = omega arith in ap (λ i. getD (task-of j t .runs) i 0) same
 
 module _

@@ -8,7 +8,7 @@ use native.Mathlib.Omega.{arith}
 use lib.Dec.{eqb, ltb}
 use lib.ListN.{length, getD, take, drop, take-append-drop}
 use lib.Seq.{take-suc, take-take}
-use borrow.Author.Tests.{eqb-false, eq-eqb, ne-eqb, not-true, ltb-true, lt-ltb, le-ltb}
+use borrow.Author.Tests.{eqb-true, eqb-false, eq-eqb, ne-eqb, not-true, ltb-true, lt-ltb, le-ltb}
 use Rattle.rules.specs.declared.Message.{Message}
 use Rattle.rules.specs.declared.Job.{Job}
 use Rattle.rules.specs.declared.Setup.{Setup}
@@ -17,7 +17,7 @@ use Rattle.rules.specs.Words.{messages-of, largest-volume, link-time}
 use Rattle.rules.specs.Placing.{transfer, crosses, into}
 use Rattle.rules.specs.Bounds.{Sound, Between}
 use Rattle.rules.specs.Demands.{InRange}
-use Rattle.rules.proofs.Sequences.{keep-append, keep-mem, mem-keep, and-true}
+use Rattle.rules.proofs.Sequences.{by-test, keep-append, keep-mem, mem-keep, and-true}
 use Rattle.rules.proofs.Pairs.{Pairwise, pairwise-keep, pairwise-front}
 use Rattle.rules.proofs.Inputs.{Differ}
 use Rattle.rules.proofs.Differ.{in-range-differ}
@@ -50,15 +50,18 @@ first-differ s j t i range h =
     (λ msg. eqb (msg .receiver) t)
     (pairwise-front Differ (take i (j .messages)) (drop i (messages-of j)) (subst (Pairwise Differ) all (in-range-differ s j range)))
 
--- a message crosses if its machines differ and it has volume
-pub crosses-apart : (msg : Message) (a b : ℕ) → (a ≡ b → ⊥) → (msg .volume ≡ 0 → ⊥) → crosses msg a b ≡ true
-crosses-apart msg a b p q = rw (ne-eqb a b p, lt-ltb 0 (msg .volume) (omega (arith, q))) refl
-
+-- within one machine a message does not cross; between two it does if it has volume
 pub crosses-together : (msg : Message) (a b : ℕ) → a ≡ b → crosses msg a b ≡ false
 crosses-together msg a b p = rw (eq-eqb a b p) refl
 
-pub crosses-empty : (msg : Message) (a b : ℕ) → (a ≡ b → ⊥) → msg .volume ≡ 0 → crosses msg a b ≡ false
-crosses-empty msg a b p q = rw (ne-eqb a b p, le-ltb 0 (msg .volume) (omega arith)) refl
+pub crosses-where : (msg : Message) (a b : ℕ) → (a ≡ b → ⊥) → crosses msg a b ≡ not (eqb (msg .volume) 0)
+crosses-where msg a b p =
+    rw
+    (ne-eqb a b p)
+    (by-test
+    (eqb (msg .volume) 0)
+    (λ e. let none = eqb-true (msg .volume) 0 e in rw (e, le-ltb 0 (msg .volume) (omega arith)) refl)
+    (λ e. let some = eqb-false (msg .volume) 0 e in rw (e, lt-ltb 0 (msg .volume) (omega (arith, some))) refl))
 
 -- a message that crosses needs some time, and no more than the largest
 pub transfer-takes :

@@ -21,11 +21,14 @@ numbers-more a (suc n) =
 
 module _ (p : ℕ → Bool) (n : ℕ) where
   -- of the numbers from 1 on, those that pass a test, with one number more
-  keep-more : keep p (numbers 1 (n + 1)) ≡ keep p (numbers 1 n) ++ cons-if (p (n + 1)) (n + 1) []
-  keep-more =
+  pub keep-next : keep p (numbers 1 (suc n)) ≡ keep p (numbers 1 n) ++ cons-if (p (suc n)) (suc n) []
+  keep-next =
       let same : 1 + n ≡ suc n = omega arith in
       let one-more = numbers-more 1 n ∙ ap (λ m. numbers 1 n ++ (m ∷ [])) same in
-      rw add-one (ap (keep p) one-more ∙ keep-append p (numbers 1 n) (suc n ∷ []))
+      ap (keep p) one-more ∙ keep-append p (numbers 1 n) (suc n ∷ [])
+
+  keep-more : keep p (numbers 1 (n + 1)) ≡ keep p (numbers 1 n) ++ cons-if (p (n + 1)) (n + 1) []
+  keep-more = rw add-one keep-next
 
   pub keep-passing : p (n + 1) ≡ true → keep p (numbers 1 (n + 1)) ≡ keep p (numbers 1 n) ++ ((n + 1) ∷ [])
   keep-passing e = rw (keep-more, e) refl

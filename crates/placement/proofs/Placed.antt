@@ -11,7 +11,7 @@ use native.Mathlib.Omega.{arith}
 use lib.Dec.{ltb, eqb}
 use lib.ListN.{length, getD, take, set, replicate, length-set, length-append, length-take, length-replicate, getD-replicate}
 use lib.Seq.{getD-take, length-take-le, getD-set-same, getD-set-other}
-use borrow.Author.Tests.{eqb-true, eqb-false, eq-eqb, ne-eqb, lt-ltb, ltb-true, not-true}
+use borrow.Author.Tests.{eqb-true, eqb-false, eq-eqb, ne-eqb, lt-ltb, ltb-true, ltb-false, not-true}
 use Rattle.rules.specs.declared.Holder.{Holder}
 use Rattle.rules.specs.declared.Row.{Row}
 use Rattle.rules.specs.declared.Message.{Message}
@@ -32,11 +32,12 @@ use Rattle.rules.proofs.Order.{in-range-count, in-range-messages, in-range-ends
 use Rattle.rules.proofs.Bounds.{InBounds, turn-in-bounds, task-figures, scheduling-figure}
 use Rattle.rules.proofs.Counted.{due-length}
 use Rattle.placement.specs.Columns.{room, Widths, Mirrors}
-use Rattle.placement.specs.Asked.{Numbered, on-machine, on-link, AskFill, AskOrder, AskRelease, Stands, next-of}
+use Rattle.placement.specs.Asked.{Numbered, on-machine, on-link, AskFill, AskOrder, Stands, next-of}
 use Rattle.placement.specs.Trials.{reach, SenderAt, Used, AskInputs, AskChoice, Beside, IsTrial, AttemptBounds, ColumnsLeft}
 use Rattle.placement.specs.Placements.{most-own, none-placed, AskAppend, Appended, AskPlace, placing-of, PlacementIs}
 use Rattle.placement.specs.declared.Attempt.{Attempt}
 use Rattle.placement.specs.declared.place.Placement.{Placement}
+use Rattle.placement.proofs.Tasks.{Released, released-none, TurnOf}
 use Rattle.placement.proofs.Mirror.{mirror-kept}
 
 -- Facts of rows in range.
@@ -101,6 +102,9 @@ module _ (s : Setup) (clock : ℕ) (held : List Row) (count : ℕ) (j : Job) (as
 
   pub ask-order : AskOrder j
   ask-order = record { tasks = in-range-count s j range .1; messages = in-range-messages s j range; ends = in-range-ends s j range }
+
+  pub released-first : Released j clock (replicate most-tasks 0) (clock + j .scheduling) 0
+  released-first = released-none j (ask .clock-at-most) (scheduling-figure s j range) (in-range-count s j range .1)
 
   -- what holds before each turn
   pub record Placing-so-far (machines done resources starts finishes : List ℕ) (own : Placement) (turns : ℕ) : Type 0 where
@@ -253,14 +257,13 @@ module _ (s : Setup) (clock : ℕ) (held : List Row) (count : ℕ) (j : Job) (as
         runs-at-most = task-figures s j range (its .is-task) .runs;
       }
 
-      pub ask-release : AskRelease j clock t
-      ask-release = record {
-        order = ask-order;
-        listed = its .is-task;
-        clock-at-most = ask .clock-at-most;
-        scheduling = scheduling-figure s j range;
-        dispatches = λ k is. task-figures s j range is .dispatch;
-      }
+      pub turn-of : TurnOf j machines t
+      turn-of =
+          let is = its .is-task in
+          let few = in-range-count s j range .1 in
+          let last = is .last in
+          let none = ltb-false 0 (getD machines (t - 1) 0) (sym (p .stands .placed-is t (is .first) (omega arith)) ∙ unplaced) in
+          record { listed = is; few = few; short = task-figures s j range is .dispatch; vacant = omega arith }
 
       pub beside : Beside j machines done t resources starts finishes used H new
       beside = record {
@@ -320,7 +323,7 @@ module _ (s : Setup) (clock : ℕ) (held : List Row) (count : ℕ) (j : Job) (as
       is-kept = choice-kept s clock H j new t trial kept
 
       -- its machine is one of the table's
-      kept-machine : Between 1 (s .table .machines) m
+      pub kept-machine : Between 1 (s .table .machines) m
       unfolding machine-of try
       kept-machine =
           let same : m ≡ is-kept .0 = ap (λ x. machine-of (x .own .holder)) (is-kept .1) in

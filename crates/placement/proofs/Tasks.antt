@@ -1,7 +1,7 @@
 -- Laws of the order of tasks: which wait, which is next, and the floor of its start.
 use mathlib.Core.Logic.{_≢_}
-use mathlib.Core.Path.{_≡_, refl, sym, ap, _∙_}
-use mathlib.Core.Bool.{Bool, true, false, not, _&&_, and-true, and-false}
+use mathlib.Core.Path.{_≡_, refl, sym, ap, ap₂, _∙_}
+use mathlib.Core.Bool.{Bool, true, false, not, cond, _&&_, and-true, and-false}
 use mathlib.Core.List.{List, [], _∷_, _++_, map}
 use mathlib.Core.Option.{some}
 use Prim.Native.Nat.{ℕ, zero, suc, _+_, _-_, _*_, _≤_, _<_}
@@ -14,14 +14,14 @@ use borrow.Author.Tests.{eqb-true, eqb-false, lt-ltb, le-ltb, not-true, not-fals
 use Rattle.rules.specs.declared.Row.{Row}
 use Rattle.rules.specs.declared.Message.{Message}
 use Rattle.rules.specs.declared.Job.{Job}
-use Rattle.rules.specs.Sequences.{all-of, keep, sum-of, numbers, precedes, foremost}
-use Rattle.rules.specs.Words.{most-tasks, most-messages, largest-time, messages-of, no-task, task-of}
+use Rattle.rules.specs.Sequences.{all-of, cons-if, keep, sum-of, numbers, precedes, foremost}
+use Rattle.rules.specs.Words.{most-tasks, most-messages, largest-time, horizon, messages-of, no-task, task-of}
 use Rattle.rules.specs.Laws.{IsTask}
 use Rattle.rules.specs.Placing.{placed, ready, next-task, release}
 use Rattle.rules.proofs.Sequences.{by-test, keep-append, sum-append, getD-mem}
 use Rattle.rules.proofs.Choice.{false-precedes}
-use Rattle.placement.proofs.Foremost.{later, foremost-more, keep-passing, keep-failing, lower-precedes}
-use Rattle.placement.specs.Asked.{AskOrder, AskRelease, Stands, WaitingIs, next-of}
+use Rattle.placement.proofs.Foremost.{later, foremost-more, keep-next, keep-passing, keep-failing, lower-precedes}
+use Rattle.placement.specs.Asked.{AskOrder, Stands, WaitingIs, next-of}
 
 -- the length of a field that is an array of structs, as what owning it tells has it
 pub length-mapped : (A B : Type 0) (f : A → B) (l : List A) (n : ℕ) → length (map f l) ≡ n → length l ≡ n
@@ -251,60 +251,113 @@ module _ {j : Job} {machines finishes : List ℕ} {best deadline t : ℕ} (sofar
                 let earlier : task-of j (t + 1) .deadline < task-of j best .deadline = omega (arith, own) in
                 rw (next-some ne, lower-precedes _ _ ((t + 1) ∷ []) (best ∷ []) earlier) refl)
 
--- The floor of a task's start: task by task.
+-- The floor of a task's start: turn by turn.
 
--- the dispatch times of those placed among the first t tasks, added up
-pub record Summed (j : Job) (machines finishes : List ℕ) (sum t : ℕ) : Type 0 where
-  pub within : t ≤ j .taskcount
-  pub at-most : sum ≤ largest-time * t
-  pub is-sum : (new : List Row) → Stands new machines finishes → sum ≡ sum-of (λ k. task-of j k .dispatch) (keep (placed new) (numbers 1 t))
+module _ (f : ℕ → ℕ) where
+  -- of the numbers up to n, those that pass a test, added up
+  abbrev sum-up-to : (ℕ → Bool) → ℕ → ℕ
+  sum-up-to p n = sum-of f (keep p (numbers 1 n))
 
-pub summed-none : (j : Job) (machines finishes : List ℕ) → Summed j machines finishes 0 0
-summed-none j machines finishes = record { within = omega arith; at-most = omega arith; is-sum = λ new stands. refl }
+  sum-next : (p : ℕ → Bool) (n : ℕ) → sum-up-to p (suc n) ≡ sum-up-to p n + cond (p (suc n)) (f (suc n)) 0
+  sum-next p n =
+      let more = ap (sum-of f) (keep-next p n) ∙ sum-append f (keep p (numbers 1 n)) (cons-if (p (suc n)) (suc n) []) in
+      by-test (p (suc n)) (λ e. more ∙ rw e (omega arith)) (λ e. more ∙ rw e (omega arith))
 
-module _ {j : Job} {machines finishes : List ℕ} {clock task sum t : ℕ} (ask : AskRelease j clock task) (sofar : Summed j machines finishes sum t) where
-  pub summed-release :
-      j .taskcount ≤ t → (new : List Row) → Stands new machines finishes →
-      clock + j .scheduling + sum + task-of j task .dispatch ≡ release clock j new task
+  sum-same : (p q : ℕ → Bool) (n : ℕ) → ((k : ℕ) → 1 ≤ k → k ≤ n → p k ≡ q k) → sum-up-to p n ≡ sum-up-to q n
+  sum-same p q zero same = refl
+  sum-same p q (suc n) same =
+      let before = sum-same p q n (λ k a b. same k a (omega arith)) in
+      let here = same (suc n) (omega arith) (omega arith) in
+      sum-next p n ∙ ap₂ (λ a x. a + cond x (f (suc n)) 0) before here ∙ sym (sum-next q n)
+
+  sum-none : (p : ℕ → Bool) (n : ℕ) → ((k : ℕ) → 1 ≤ k → k ≤ n → p k ≡ false) → sum-up-to p n ≡ 0
+  sum-none p zero none = refl
+  sum-none p (suc n) none =
+      let before = sum-none p n (λ k a b. none k a (omega arith)) in
+      sum-next p n ∙ rw (none (suc n) (omega arith) (omega arith)) (omega arith)
+
+  -- one number passes that did not
+  sum-one-more :
+      (p q : ℕ → Bool) (t n : ℕ) → 1 ≤ t → t ≤ n → p t ≡ false → q t ≡ true → ((k : ℕ) → 1 ≤ k → k ≤ n → (k ≡ t → ⊥) → p k ≡ q k) →
+      sum-up-to q n ≡ sum-up-to p n + f t
+  sum-one-more p q t zero low high out now same = absurd (omega arith)
+  sum-one-more p q t (suc n) low high out now same =
+      by-test
+      (eqb (suc n) t)
+      (λ e.
+      let it = eqb-true (suc n) t e in
+      let before = sum-same p q n (λ k a b. same k a (omega arith) (λ is. omega arith)) in
+      let added : sum-up-to q (suc n) ≡ sum-up-to q n + f (suc n) = sum-next q n ∙ rw (it, now) refl in
+      let left : sum-up-to p (suc n) ≡ sum-up-to p n = sum-next p n ∙ rw (it, out) (omega arith) in
+      let own = ap f it in
+      omega arith)
+      (λ e.
+      let other = eqb-false (suc n) t e in
+      let before = sum-one-more p q t n low (omega (arith, other)) out now (λ k a b. same k a (omega arith)) in
+      let here = same (suc n) (omega arith) (omega arith) other in
+      let with-p = sum-next p n in
+      let with-q = sum-next q n in
+      let equal = ap (λ x. cond x (f (suc n)) 0) here in
+      omega arith)
+
+-- what the column of machines says of a task
+abbrev stands-at : List ℕ → ℕ → Bool
+stands-at machines t = ltb 0 (getD machines (t - 1) 0)
+
+abbrev dispatch-of : Job → ℕ → ℕ
+dispatch-of j t = task-of j t .dispatch
+
+-- the floor so far: the clock, the scheduling time, and the dispatch times of the tasks placed
+pub record Released (j : Job) (clock : ℕ) (machines : List ℕ) (floor turns : ℕ) : Type 0 where
+  pub is : floor ≡ clock + j .scheduling + sum-up-to (dispatch-of j) (stands-at machines) (j .taskcount)
+  pub at-most : floor ≤ horizon + largest-time * (turns + 1)
+
+pub released-none : (j : Job) {clock : ℕ} → clock ≤ horizon → j .scheduling ≤ largest-time → j .taskcount ≤ most-tasks → Released j clock (replicate most-tasks 0) (clock + j .scheduling) 0
+released-none j low least few =
+    let none = sum-none (dispatch-of j) (stands-at (replicate most-tasks 0)) (j .taskcount) (λ k a b. ap (ltb 0) (getD-replicate {A = ℕ} most-tasks (k - 1) 0 0 (omega arith))) in
+    record { is = rw none (omega arith); at-most = omega arith }
+
+-- what the turn of a task asks: it is listed, its dispatch time is in range, and it has no machine yet
+pub record TurnOf (j : Job) (machines : List ℕ) (t : ℕ) : Type 0 where
+  pub listed : IsTask j t
+  pub few : j .taskcount ≤ most-tasks
+  pub short : task-of j t .dispatch ≤ largest-time
+  pub vacant : getD machines (t - 1) 0 ≡ 0
+
+module _ {j : Job} {clock : ℕ} {machines : List ℕ} {floor turns t : ℕ} (sofar : Released j clock machines floor turns) (turn : TurnOf j machines t) where
+  pub release-low : turns < j .taskcount → floor + task-of j t .dispatch ≤ 1_020_000_000
+  release-low more = let most = sofar .at-most in let few = turn .few in omega (arith, turn .short)
+
+  pub release-now : {finishes : List ℕ} (new : List Row) → Stands new machines finishes → floor + task-of j t .dispatch ≡ release clock j new t
   unfolding release
-  summed-release all new stands =
-      let same : t ≡ j .taskcount = omega arith in
-      let is = sofar .is-sum new stands ∙ ap (λ n. sum-of (λ k. task-of j k .dispatch) (keep (placed new) (numbers 1 n))) same in
-      ap (λ n. clock + j .scheduling + n + task-of j task .dispatch) is
+  release-now new stands =
+      let few = turn .few in
+      let same = sum-same (dispatch-of j) (stands-at machines) (placed new) (j .taskcount) (λ k a b. sym (stands .placed-is k a (omega arith))) in
+      let is = sofar .is in
+      omega arith
 
-  module _ (more : t < j .taskcount) where
-    placed-at : (new : List Row) → Stands new machines finishes → placed new (t + 1) ≡ ltb 0 (getD machines t 0)
-    placed-at new stands = placed-next stands t (omega arith)
-
-    pub dispatch-at-most : getD (j .tasks) t no-task .dispatch ≤ largest-time
-    dispatch-at-most =
-        let own = ap (λ task. task .dispatch) (task-at j t) in
-        let most = ask .dispatches (t + 1) (record { first = omega arith; last = omega arith }) in
-        omega arith
-
-    pub summed-unplaced : getD machines t 0 ≡ 0 → Summed j machines finishes sum (t + 1)
-    summed-unplaced e =
-        record {
-          within = omega arith;
-          at-most = omega arith;
-          is-sum =
-              λ new stands.
-              rw
-              (keep-failing (placed new) t (placed-at new stands ∙ le-ltb 0 (getD machines t 0) (omega arith)))
-              (sofar .is-sum new stands);
-        }
-
-    pub summed-placed : (getD machines t 0 ≡ 0 → ⊥) → Summed j machines finishes (sum + getD (j .tasks) t no-task .dispatch) (t + 1)
-    summed-placed ne =
-        let low = dispatch-at-most in
-        record {
-          within = omega arith;
-          at-most = omega arith;
-          is-sum =
-              λ new stands.
-              let was = sofar .is-sum new stands in
-              let own = ap (λ task. task .dispatch) (task-at j t) in
-              rw
-              (keep-passing (placed new) t (placed-at new stands ∙ lt-ltb 0 (getD machines t 0) (omega (arith, ne))), sum-append)
-              (omega arith);
-        }
+  -- the task is placed
+  pub released-more :
+      {m : ℕ} → length machines ≡ most-tasks → 1 ≤ m →
+      Released j clock (set machines (t - 1) m) (floor + task-of j t .dispatch) (turns + 1)
+  released-more {m} long positive =
+      let low = turn .listed .first in
+      let high = turn .listed .last in
+      let few = turn .few in
+      let at : t - 1 < length machines = omega arith in
+      let one-more =
+      sum-one-more
+      (dispatch-of j)
+      (stands-at machines)
+      (stands-at (set machines (t - 1) m))
+      t
+      (j .taskcount)
+      low
+      high
+      (le-ltb 0 (getD machines (t - 1) 0) (omega (arith, turn .vacant)))
+      (rw (getD-set-same machines (t - 1) m 0 at) (lt-ltb 0 m positive))
+      (λ k a b ne. ap (ltb 0) (sym (getD-set-other machines (t - 1) (k - 1) m 0 (λ e. ne (omega arith)))))
+      in
+      let is = sofar .is in
+      let most = sofar .at-most in
+      record { is = omega arith; at-most = omega (arith, turn .short) }

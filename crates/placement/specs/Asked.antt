@@ -57,13 +57,6 @@ pub record AskOrder (j : Job) : Type 0 where
   pub messages : j .messagecount ≤ most-messages
   pub ends : EndsListed j
 
-pub record AskRelease (j : Job) (clock t : ℕ) : Type 0 where
-  pub order : AskOrder j
-  pub listed : IsTask j t
-  pub clock-at-most : clock ≤ horizon
-  pub scheduling : j .scheduling ≤ largest-time
-  pub dispatches : (k : ℕ) → IsTask j k → task-of j k .dispatch ≤ largest-time
-
 -- what a Standing says of the rows booked so far
 pub record Stands (new : List Row) (machines finishes : List ℕ) : Type 0 where
   pub placed-is : (t : ℕ) → 1 ≤ t → t ≤ most-tasks → placed new t ≡ ltb 0 (getD machines (t - 1) 0)

@@ -2,7 +2,7 @@
 use mathlib.Core.Path.{_≡_}
 use mathlib.Core.List.{List}
 use Prim.Native.Nat.{ℕ, _+_, _*_, _≤_, _<_}
-use lib.ListN.{length, getD}
+use lib.ListN.{getD}
 use Rattle.rules.specs.Words.{most-machines, row-limit}
 use Rattle.placement.specs.Columns.{room}
 use Rattle.placement.specs.Passes.{NextOf, AfterLastOf}
@@ -25,8 +25,8 @@ pub record ChainBack (resources : List ℕ) (count : ℕ) (backs : List ℕ) : T
   pub last : (key : ℕ) → key < keys → AfterLastOf key resources 0 count (getD backs key 0)
   pub back : (i : ℕ) → i < count → AfterLastOf (getD resources i 0) resources 0 i (getD backs (keys + i) 0)
 
--- what making a chain asks
-pub record AskChain (resources : List ℕ) (count : ℕ) : Type 0 where
+-- the first entries are of resources that have a place in a chain
+pub record Keyed (resources : List ℕ) (count : ℕ) : Type 0 where
   pub few : count ≤ row-limit
   pub known : (i : ℕ) → i < count → getD resources i 0 < keys
 

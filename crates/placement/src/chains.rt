@@ -2,14 +2,15 @@
 use crate::KEYS;
 use crate::NODES;
 use crate::SPANS;
-ghost use Rattle.placement.specs.Chains.{AskChain, ChainOn, ChainBack};
+ghost use mathlib.Core.Path.{_≡_};
+ghost use lib.ListN.{replicate};
+ghost use Rattle.placement.specs.Chains.{nodes, Keyed, ChainOn, ChainBack};
 
-// The first entry of each resource, and for each entry the next of its resource; the count where there is none.
-pub fn nexts_of(resources: &[u64; SPANS], count: usize) -> [usize; NODES]
-    requires { ⌜ AskChain (now resources) count ⌝ }
-    ensures { λ r. ⌜ ChainOn (now (resources .entry)) count r ⌝ }
+// The first entry of each resource, and for each entry the next of its resource. The count, which each place has at first, says that there is none.
+pub fn chain_on<'a>(resources: &'a [u64; SPANS], count: usize, nexts: &'a mut [usize; NODES])
+    requires { ⌜ Keyed (now resources) count × (now nexts ≡ replicate nodes count) ⌝ }
+    ensures { λ _. ⌜ ChainOn (now (resources .entry)) count (now (nexts .exit)) ⌝ }
 {
-    let mut nexts = [count; NODES];
     let mut left = count;
     while 0 < left {
         left -= 1;
@@ -18,15 +19,13 @@ pub fn nexts_of(resources: &[u64; SPANS], count: usize) -> [usize; NODES]
         nexts[KEYS + left] = next;
         nexts[key] = left;
     }
-    nexts
 }
 
 // The same backwards: the place after the last entry of each resource, and after the one before each entry; 0 where there is none.
-pub fn backs_of(resources: &[u64; SPANS], count: usize) -> [usize; NODES]
-    requires { ⌜ AskChain (now resources) count ⌝ }
-    ensures { λ r. ⌜ ChainBack (now (resources .entry)) count r ⌝ }
+pub fn chain_back<'a>(resources: &'a [u64; SPANS], count: usize, backs: &'a mut [usize; NODES])
+    requires { ⌜ Keyed (now resources) count × (now backs ≡ replicate nodes 0) ⌝ }
+    ensures { λ _. ⌜ ChainBack (now (resources .entry)) count (now (backs .exit)) ⌝ }
 {
-    let mut backs = [0; NODES];
     let mut i: usize = 0;
     while i < count {
         let key = resources[i] as usize;
@@ -35,5 +34,4 @@ pub fn backs_of(resources: &[u64; SPANS], count: usize) -> [usize; NODES]
         i += 1;
         backs[key] = i;
     }
-    backs
 }

@@ -92,6 +92,7 @@ pub fn choose<'a>(
             standing,
             task,
             m,
+            run,
             release,
             resources,
             starts,

@@ -11,7 +11,7 @@ pub mod trial;
 use rules::Row;
 
 // Held rows, a job's own, those of one trial, and spans for all of them.
-pub const HELD: usize = 256;
+pub const HELD: usize = rules::ROWS;
 
 pub const OWN: usize = rules::TASKS + rules::MESSAGES;
 

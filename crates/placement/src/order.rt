@@ -1,13 +1,12 @@
-// The order of the tasks: which wait, which is next, and when it may start.
+// The order of the tasks: which wait, and which is next.
 use crate::Standing;
 use rules::Job;
 use rules::TASKS;
 ghost use mathlib.Core.Path.{_≡_};
 ghost use mathlib.Core.List.{List};
-ghost use Prim.Native.Nat.{_≤_};
 ghost use Rattle.rules.specs.declared.Row.{Row};
-ghost use Rattle.rules.specs.Placing.{next-task, release};
-ghost use Rattle.placement.specs.Asked.{AskOrder, AskRelease, Stands, WaitingIs, next-of};
+ghost use Rattle.rules.specs.Placing.{next-task};
+ghost use Rattle.placement.specs.Asked.{AskOrder, Stands, WaitingIs, next-of};
 
 // The tasks that wait: some message into them has a sender that is not placed.
 fn waiting(job: Job, standing: Standing) -> [bool; TASKS]
@@ -55,24 +54,4 @@ pub fn next_ready(job: Job, standing: Standing) -> u64
         deadline = its;
     }
     best
-}
-
-// 01's floor: the clock, the scheduling time, and the dispatch times of the tasks placed so far and of this one.
-pub fn release_time(job: Job, standing: Standing, clock: u64, task: u64) -> u64
-    requires { ⌜ AskRelease job clock task ⌝ }
-    ensures { λ r. ⌜ ((new : List Row) → Stands new (standing .machines) (standing .finishes) → r ≡ release clock job new task) ⌝ }
-    ensures { λ r. ⌜ r ≤ 1_020_000_000 ⌝ }
-{
-    let mut sum: u64 = 0;
-    let mut t: u64 = 0;
-    while t < job.taskcount {
-        let at = t as usize;
-        t += 1;
-        if standing.machines[at] == 0 {
-            continue;
-        }
-        sum += job.tasks[at].dispatch;
-    }
-    let own = (task - 1) as usize;
-    clock + job.scheduling + sum + job.tasks[own].dispatch
 }

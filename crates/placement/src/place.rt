@@ -4,12 +4,11 @@ use crate::NODES;
 use crate::OWN;
 use crate::SPANS;
 use crate::Standing;
-use crate::chains::backs_of;
-use crate::chains::nexts_of;
+use crate::chains::chain_back;
+use crate::chains::chain_on;
 use crate::choice::choose;
 use crate::columns::put;
 use crate::order::next_ready;
-use crate::order::release_time;
 use crate::trial::blank;
 use rules::Job;
 use rules::Row;
@@ -91,13 +90,16 @@ fn place_tasks<'a>(
         finishes: [0; TASKS],
     };
     let mut own = without_rows(0);
+    // 01's floor: the clock, the scheduling time, and the dispatch times of the tasks placed so far; then of the one whose turn it is.
+    let mut release = clock + job.scheduling;
     let mut turn: u64 = 0;
     while turn < job.taskcount {
         let task = next_ready(job, standing);
         if task == 0 {
             return own;
         }
-        let release = release_time(job, standing, clock, task);
+        let at = (task - 1) as usize;
+        release += job.tasks[at].dispatch;
         let used = held + own.count;
         let kept = choose(
             s,
@@ -118,7 +120,6 @@ fn place_tasks<'a>(
         }
         let best = kept.best;
         own = append(own, best, resources, starts, finishes, used);
-        let at = (task - 1) as usize;
         standing.machines[at] = kept.machine;
         standing.finishes[at] = best.finish;
         turn += 1;
@@ -139,8 +140,10 @@ pub fn place<'a>(
     requires { ⌜ AskPlaceAmong s clock job (now resources) (now starts) (now finishes) count ⌝ }
     ensures { λ r. ⌜ PlacedAmong s clock job (now (resources .entry)) (now (starts .entry)) (now (finishes .entry)) count r ⌝ }
 {
-    let nexts = nexts_of(resources, count);
-    let backs = backs_of(resources, count);
+    let mut nexts = [count; NODES];
+    let mut backs = [0usize; NODES];
+    chain_on(resources, count, &mut nexts);
+    chain_back(resources, count, &mut backs);
     place_tasks(
         s,
         clock,

@@ -19,7 +19,8 @@ ghost use mathlib.Core.Path.{_≡_};
 ghost use mathlib.Core.List.{List};
 ghost use Prim.Native.Nat.{max};
 ghost use Rattle.rules.specs.declared.Row.{Row};
-ghost use Rattle.rules.specs.Placing.{no-row};
+ghost use Rattle.rules.specs.Words.{run-time};
+ghost use Rattle.rules.specs.Placing.{no-row, crosses as rules-crosses};
 ghost use Rattle.placement.specs.Chains.{Chained};
 ghost use Rattle.placement.specs.Trials.{AskInput, InputIs, AskInputs, InputsAre, AskAttempt, AttemptIs};
 
@@ -55,6 +56,16 @@ fn later(a: u64, b: u64) -> u64
         return b;
     }
     a
+}
+
+// The message takes time on the link from machine a to machine b.
+fn crosses(msg: Message, a: u64, b: u64) -> bool
+    ensures { λ r. ⌜ r ≡ rules-crosses msg a b ⌝ }
+{
+    if a == b {
+        return false;
+    }
+    msg.volume != 0
 }
 
 // The row of a message from machine a to machine b, at the least tick, not before its sender's finish, that is free on the link.
@@ -129,11 +140,7 @@ fn try_messages<'a>(
         let sender = (msg.sender - 1) as usize;
         let a = standing.machines[sender];
         let done = standing.finishes[sender];
-        if a == machine {
-            arrived = later(arrived, done);
-            continue;
-        }
-        if msg.volume == 0 {
+        if !crosses(msg, a, machine) {
             arrived = later(arrived, done);
             continue;
         }
@@ -166,13 +173,14 @@ fn try_messages<'a>(
     }
 }
 
-// A trial of a machine that can run the task.
+// A trial of a machine that can run the task, for the run time there.
 pub fn attempt<'a>(
     s: Setup,
     job: Job,
     standing: Standing,
     task: u64,
     machine: u64,
+    run: u64,
     release: u64,
     resources: &'a mut [u64; SPANS],
     starts: &'a mut [u64; SPANS],
@@ -184,6 +192,7 @@ pub fn attempt<'a>(
 ) -> Attempt
     requires { ⌜ AskAttempt s job (standing .machines) (standing .finishes) task machine release (now resources) (now starts) (now finishes) used ⌝ }
     requires { ⌜ Chained (now resources) (now nexts) (now backs) held used ⌝ }
+    requires { ⌜ run ≡ run-time job task machine ⌝ }
     ensures { λ r. ⌜ AttemptIs s job (standing .machines) (standing .finishes) task machine release (now (resources .entry)) (now (starts .entry)) (now (finishes .entry)) used (now (resources .exit)) (now (starts .exit)) (now (finishes .exit)) r ⌝ }
 {
     let found = try_messages(
@@ -201,10 +210,6 @@ pub fn attempt<'a>(
         held,
         used,
     );
-    let at = (task - 1) as usize;
-    let its = job.tasks[at];
-    let on = (machine - 1) as usize;
-    let run = its.runs[on];
     let start = least_free(
         resources,
         starts,

@@ -12,9 +12,10 @@ use listing::figure;
 use listing::heading;
 use listing::print_placement;
 use placement::HELD;
+use placement::NODES;
 use placement::SPANS;
-use placement::chains::backs_of;
-use placement::chains::nexts_of;
+use placement::chains::chain_back;
+use placement::chains::chain_on;
 use placement::columns::fill;
 use placement::place::place;
 use placement::search::least_free;
@@ -91,8 +92,10 @@ fn show_least(name: &[u8], len: u64)
     resources[1] = 1;
     starts[1] = 9;
     finishes[1] = 12;
-    let nexts = nexts_of(&resources, 2);
-    let backs = backs_of(&resources, 2);
+    let mut nexts = [2usize; NODES];
+    let mut backs = [0usize; NODES];
+    chain_on(&resources, 2, &mut nexts);
+    chain_back(&resources, 2, &mut backs);
     figure(
         b"start=",
         least_free(

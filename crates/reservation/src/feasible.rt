@@ -1,5 +1,6 @@
 // Refusals 5 and 6: a number that is held, and a task that no machine can end in time.
 use rules::Job;
+use rules::ROWS;
 use rules::Setup;
 use rules::Task;
 ghost use mathlib.Core.Path.{_≡_};
@@ -10,7 +11,7 @@ ghost use Rattle.reservation.specs.Tests.{AskFeasible, AskTimes, TestOf,
 ghost use Rattle.reservation.specs.Calls.{HeldIs};
 
 // Some row carries the number.
-pub fn is_held(jobs: &[u64; 256], count: usize, number: u64) -> bool
+pub fn is_held(jobs: &[u64; ROWS], count: usize, number: u64) -> bool
     requires { ⌜ count ≤ row-limit ⌝ }
     ensures { λ r. ⌜ HeldIs (now (jobs .entry)) count number r ⌝ }
 {

@@ -10,8 +10,11 @@ mod withdrawal;
 
 use placement::trial::blank;
 use rules::Answer;
+use rules::MESSAGES;
+use rules::ROWS;
 use rules::Row;
 use rules::Setup;
+use rules::TASKS;
 use rules::tables::default_setup;
 ghost use mathlib.Core.Path.{_≡_};
 ghost use Prim.Native.Nat.{_<_};
@@ -26,7 +29,7 @@ pub struct Register {
     setup: Setup,
     clock: u64,
     count: usize,
-    rows: [Row; 256],
+    rows: [Row; ROWS],
     total: u64,
 }
 
@@ -49,20 +52,20 @@ pub fn numbered(number: u64, task: u64) -> Answer
 }
 
 impl Register {
-    pub const ROWS: usize = 256;
+    pub const ROWS: usize = ROWS;
 
     pub const HORIZON: u64 = 1_000_000_000;
 
-    pub const TASKS: usize = 16;
+    pub const TASKS: usize = TASKS;
 
-    pub const MESSAGES: usize = 32;
+    pub const MESSAGES: usize = MESSAGES;
 
     // A fresh register: clock 0, no rows and total 0.
     pub fn new() -> Self
         ensures { λ r. ⌜ r ≡ register-of default-setup fresh ⌝ }
         ensures { λ r. ⌜ Valid r ⌝ }
     {
-        let rows = [blank(); 256];
+        let rows = [blank(); ROWS];
         let setup = default_setup();
         Self {
             setup: setup,
@@ -93,7 +96,7 @@ impl Register {
     }
 
     // The slots of all rows; those past the count are blank.
-    pub fn rows(self) -> [Row; 256]
+    pub fn rows(self) -> [Row; ROWS]
         ensures { λ r. ⌜ r ≡ self .rows ⌝ }
     {
         self.rows
@@ -104,7 +107,7 @@ impl Register {
         requires { ⌜ Valid self ⌝ }
         ensures { λ r. ⌜ r ≡ getD (self .rows) at no-row ⌝ }
     {
-        if 256 <= at {
+        if ROWS <= at {
             return blank();
         }
         self.rows[at]

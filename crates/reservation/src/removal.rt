@@ -1,6 +1,7 @@
 // Removing rows: which ones leave, and the register without them.
 use crate::Register;
 use placement::trial::blank;
+use rules::ROWS;
 use rules::Row;
 ghost use Prim.Native.Nat.{_≤_};
 ghost use Rattle.rules.specs.Words.{row-limit};
@@ -10,21 +11,21 @@ ghost use Rattle.reservation.specs.Calls.{EndedIs, RowsOf, RowsEnded, Re
 
 // The jobs, the starts and the finishes of the rows, gathered once for a call.
 pub struct Figures {
-    pub jobs: [u64; 256],
-    pub starts: [u64; 256],
-    pub finishes: [u64; 256],
+    pub jobs: [u64; ROWS],
+    pub starts: [u64; ROWS],
+    pub finishes: [u64; ROWS],
 }
 
-pub fn figures_of(rows: [Row; 256], count: usize) -> Figures
+pub fn figures_of(rows: [Row; ROWS], count: usize) -> Figures
     requires { ⌜ count ≤ row-limit ⌝ }
     ensures { λ r. ⌜ ColumnOf (λ row. row .job) rows count (r .jobs) ⌝ }
     ensures { λ r. ⌜ ColumnOf (λ row. row .start) rows count (r .starts) ⌝ }
     ensures { λ r. ⌜ ColumnOf (λ row. row .finish) rows count (r .finishes) ⌝ }
 {
     let mut figures = Figures {
-        jobs: [0; 256],
-        starts: [0; 256],
-        finishes: [0; 256],
+        jobs: [0; ROWS],
+        starts: [0; ROWS],
+        finishes: [0; ROWS],
     };
     let mut i: usize = 0;
     while i < count {
@@ -38,8 +39,8 @@ pub fn figures_of(rows: [Row; 256], count: usize) -> Figures
 
 // Every row of the job ends at or before the tick.
 fn job_ended<'a>(
-    jobs: &'a [u64; 256],
-    finishes: &'a [u64; 256],
+    jobs: &'a [u64; ROWS],
+    finishes: &'a [u64; ROWS],
     count: usize,
     job: u64,
     tick: u64,
@@ -63,11 +64,11 @@ fn job_ended<'a>(
 }
 
 // The rows of a job.
-pub fn rows_of(jobs: &[u64; 256], count: usize, number: u64) -> [bool; 256]
+pub fn rows_of(jobs: &[u64; ROWS], count: usize, number: u64) -> [bool; ROWS]
     requires { ⌜ count ≤ row-limit ⌝ }
     ensures { λ r. ⌜ RowsOf (now (jobs .entry)) count number r ⌝ }
 {
-    let mut leaves = [false; 256];
+    let mut leaves = [false; ROWS];
     let mut i: usize = 0;
     while i < count {
         let job = jobs[i];
@@ -80,15 +81,15 @@ pub fn rows_of(jobs: &[u64; 256], count: usize, number: u64) -> [bool; 256]
 // The rows of jobs whose every row ends at or before the tick. A row that is still to end answers for its job, and the rows of a job stand next to
 // each other: the others are looked at only where neither that nor the last answer serves.
 pub fn rows_ended<'a>(
-    jobs: &'a [u64; 256],
-    finishes: &'a [u64; 256],
+    jobs: &'a [u64; ROWS],
+    finishes: &'a [u64; ROWS],
     count: usize,
     tick: u64,
-) -> [bool; 256]
+) -> [bool; ROWS]
     requires { ⌜ count ≤ row-limit ⌝ }
     ensures { λ r. ⌜ RowsEnded (now (jobs .entry)) (now (finishes .entry)) count tick r ⌝ }
 {
-    let mut leaves = [false; 256];
+    let mut leaves = [false; ROWS];
     // Any job will do to begin with, also where no row is held.
     let mut asked = jobs[0];
     let mut gone = job_ended(jobs, finishes, count, asked, tick);
@@ -110,11 +111,11 @@ pub fn rows_ended<'a>(
 }
 
 // The rows that stay keep their order, the slots that are freed become blank, and the clock is the one given.
-pub fn without(register: Register, clock: u64, leaves: [bool; 256]) -> Register
+pub fn without(register: Register, clock: u64, leaves: [bool; ROWS]) -> Register
     requires { ⌜ Valid register ⌝ }
     ensures { λ r. ⌜ Removes register clock leaves r ⌝ }
 {
-    let mut rows = [blank(); 256];
+    let mut rows = [blank(); ROWS];
     let mut kept: usize = 0;
     let mut total = register.total;
     let count = register.count;

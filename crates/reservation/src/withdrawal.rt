@@ -7,6 +7,7 @@ use crate::removal::figures_of;
 use crate::removal::rows_ended;
 use crate::removal::rows_of;
 use crate::removal::without;
+use rules::ROWS;
 ghost use mathlib.Core.Path.{_≡_};
 ghost use Prim.Native.Nat.{_≤_};
 ghost use Rattle.rules.specs.Words.{row-limit};
@@ -18,7 +19,7 @@ ghost use Rattle.reservation.specs.Calls.{BegunIs, RemovalIs, no-removal
 struct Removal {
     number: u64,
     clock: u64,
-    leaves: [bool; 256],
+    leaves: [bool; ROWS],
 }
 
 // A refusal: the clock stays, and no row leaves.
@@ -28,14 +29,14 @@ fn refused(number: u64, clock: u64) -> Removal
     Removal {
         number: number,
         clock: clock,
-        leaves: [false; 256],
+        leaves: [false; ROWS],
     }
 }
 
 // Some row of the job starts at or before the tick.
 fn has_begun<'a>(
-    jobs: &'a [u64; 256],
-    starts: &'a [u64; 256],
+    jobs: &'a [u64; ROWS],
+    starts: &'a [u64; ROWS],
     count: usize,
     number: u64,
     tick: u64,

@@ -3,6 +3,7 @@ use crate::order::order_of;
 use jobtext::figures::put_field;
 use reservation::Register;
 use rules::Holder;
+use rules::ROWS;
 use rules::Row;
 ghost use mathlib.Core.List.{_++_};
 ghost use mathlib.Core.List.{map};
@@ -73,7 +74,7 @@ fn put_row(output: &mut [u8], at: usize, row: Row) -> usize
 }
 
 // The rows in their order. A key's last eight bits are the place of its row.
-fn put_rows(output: &mut [u8], at: usize, rows: [Row; 256], count: usize) -> usize
+fn put_rows(output: &mut [u8], at: usize, rows: [Row; ROWS], count: usize) -> usize
     requires { ⌜ AskRows rows count (now output) at ⌝ }
     ensures { λ r. ⌜ Puts (now (output .entry)) at (joined (map row-bytes (sorted (take count rows)))) (now (output .exit)) r ⌝ }
 {

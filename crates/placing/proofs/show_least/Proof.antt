@@ -1,4 +1,5 @@
 -- `placing::show_least` meets its contract: the two spans hold a tick each, and end below the bound; their chains are those of their resources.
+use mathlib.Core.Path.{refl}
 use Prim.Native.Nat.{ℕ, zero, suc, _<_}
 use native.Mathlib.Omega.{arith}
 use borrow.Author.Needs.{needs}
@@ -32,25 +33,26 @@ array-write-starts-2 c = search needs
 array-write-finishes-2 : tie.Need-array-write-finishes-2
 array-write-finishes-2 c = search needs
 
-nexts-of-requires : tie.Need-nexts-of-requires
-nexts-of-requires c κs = record { few = omega arith; known = below-two _ (omega arith) (omega arith) }
+chain-on-requires : tie.Need-chain-on-requires
+chain-on-requires c κs = (record { few = omega arith; known = below-two _ (omega arith) (omega arith) }, refl)
 
-backs-of-requires : tie.Need-backs-of-requires
-backs-of-requires c κs = record { few = omega arith; known = below-two _ (omega arith) (omega arith) }
+chain-back-requires : tie.Need-chain-back-requires
+chain-back-requires c κs = (record { few = omega arith; known = below-two _ (omega arith) (omega arith) }, refl)
 
 slice-aggregate-figure : tie.Need-slice-aggregate-figure
 slice-aggregate-figure c = search needs
 
 least-free-requires : tie.Need-least-free-requires
 least-free-requires c κs =
-    let chains = c .before .before .before .before .before .before in (
+    let back = c .before .before .before .before .before .before in
+    let on = back .before .before .before in (
       record {
         spans = record { within = omega arith; lasts = below-two _ (omega arith) (omega arith); ends = below-two _ (omega arith) (omega arith) };
         from-below = omega arith;
         len-above = omega arith;
         len-below = omega arith;
       },
-      (omega arith, record { few = omega arith; within = omega arith; on = chains .before .before .nexts-of .ensures; back = chains .backs-of .ensures }),
+      (omega arith, record { few = omega arith; within = omega arith; on = on .chain-on .ensures; back = back .chain-back .ensures }),
     )
 
 figure-requires : tie.Need-figure-requires
@@ -70,8 +72,8 @@ show-least-spec =
     array-write-resources-2
     array-write-starts-2
     array-write-finishes-2
-    nexts-of-requires
-    backs-of-requires
+    chain-on-requires
+    chain-back-requires
     slice-aggregate-figure
     least-free-requires
     figure-requires

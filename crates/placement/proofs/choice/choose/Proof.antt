@@ -1,9 +1,10 @@
 -- `placement::choice::choose` meets its contract: after m machines what is kept is the foremost of their good trials.
+use mathlib.Core.Path.{sym}
 use Prim.Native.Nat.{_-_, _<_}
 use native.Mathlib.Omega.{arith}
 use borrow.Author.Tests.{not-true, not-false}
 use Rattle.placement.proofs.Sums.{less-next, task-below, task-fits, machine-below, machine-fits, machine-turn-fits}
-use Rattle.placement.proofs.Chosen.{Chosen, chosen-none, chosen-unable, chosen-asks, chosen-late, chosen-stays, chosen-taken, chosen-all}
+use Rattle.placement.proofs.Chosen.{Chosen, chosen-none, chosen-unable, chosen-asks, chosen-late, chosen-stays, chosen-taken, chosen-all, run-at}
 use Rattle.placement.proofs.Chaining.{chained-same}
 use Rattle.placement.proofs.choice.choose.Statement.{statement}
 use Rattle.placement.proofs.choice.choose.Tie as tie
@@ -57,13 +58,14 @@ loop-again c =
 attempt-requires : tie.Need-attempt-requires Inv-loop μ-loop
 attempt-requires c κs =
     let at = c .before .before .before .before .before .before .before in
-    let pre = at .before .before .before .before .pre in (
+    let start = at .before .before .before .before in
+    let pre = start .pre in (
       chosen-asks
           (pre .0)
           (at .loop .inv)
           (c .before .before .before .before .before .if1 .taken)
           (c .before .before .before .if2 .left),
-      chained-same (λ i h. at .loop .inv .columns .same .resources-same i (let within = pre .1 .within in omega arith)) (pre .1) (pre .1 .within),
+      (chained-same (λ i h. at .loop .inv .columns .same .resources-same i (let within = pre .1 .within in omega arith)) (pre .1) (pre .1 .within), sym (run-at (start .args .t2) (start .args .task) (at .loop .m))),
     )
 
 loop-less-2 : tie.Need-loop-less-2 Inv-loop μ-loop

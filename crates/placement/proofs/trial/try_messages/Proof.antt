@@ -1,17 +1,19 @@
 -- `placement::trial::try_messages` meets its contract: after i messages the rows tried are those of the rules.
-use mathlib.Core.Path.{_≡_, refl}
+use mathlib.Core.Path.{_≡_, refl, sym, _∙_}
+use mathlib.Core.Bool.{true}
 use Prim.Native.Nat.{_-_, _+_, _^_, _<_, _≤_}
 use native.Mathlib.Omega.{arith}
 use lib.ListN.{length, getD}
+use borrow.Author.Tests.{not-true, not-false}
 use Rattle.rules.specs.declared.Message.{Message}
 use Rattle.rules.specs.Words.{most-messages, most-tasks}
+use Rattle.rules.specs.Placing.{crosses}
 use Rattle.placement.specs.Columns.{room}
 use Rattle.placement.specs.Asked.{Numbered}
 use Rattle.placement.proofs.Sums.{less-next, turn-below, turn-fits, message-fits, row-fits, room-fits, cost-fits, standing-fits, sender-below}
 use Rattle.placement.proofs.Tasks.{length-mapped}
 use Rattle.placement.proofs.Gathered.{Gathered, gathered-none, gathered-other-next, gathered-without-next, gathered-with-next, gathered-all}
 use Rattle.placement.proofs.Gathered.{sender-listed, room-left, ask-input, input-fits}
-use Rattle.placement.proofs.Crossings.{crosses-apart, crosses-together, crosses-empty}
 use Rattle.placement.proofs.Chaining.{chained-same}
 use Rattle.placement.proofs.trial.try_messages.Statement.{statement}
 use Rattle.placement.proofs.trial.try_messages.Tie as tie
@@ -83,51 +85,57 @@ mul-done c = standing-fits _ (sender-below _ (sender-at (c .before .before .befo
 element-copy-out-done : tie.Need-element-copy-out-done Inv-loop μ-loop
 element-copy-out-done c = sender-below _ (sender-at (c .before .before .before .before .before))
 
+crosses-requires : tie.Need-crosses-requires Inv-loop μ-loop
+crosses-requires c κs = tt
+
 later-requires : tie.Need-later-requires Inv-loop μ-loop
 later-requires c κs = tt
 
 loop-less-2 : tie.Need-loop-less-2 Inv-loop μ-loop
-loop-less-2 c = less-next _ _ (c .before .before .before .before .before .before .before .before .loop-test .taken)
+loop-less-2 c = less-next _ _ (c .before .before .before .before .before .before .before .before .before .loop-test .taken)
 
 loop-again-2 : tie.Need-loop-again-2 Inv-loop μ-loop
 loop-again-2 c =
+    let turn = c .before .before .before .before .before .before .before .before .before in
+    let at = turn .before in
+    let start = at .before .before in
+    gathered-without-next (start .pre .0) (at .loop .inv) (turn .loop-test .taken) (all-messages start) none (c .before .before .before .before .before .before .if1 .left) (sym (c .before .before .crosses .ensures) ∙ not-true _ (c .before .if2 .taken)) (c .later .ensures)
+
+-- a message that crosses
+crossing :
+    (c : tie.Else2 Inv-loop μ-loop) →
     let at = c .before .before .before .before .before .before .before .before .before in
     let start = at .before .before in
-    gathered-without-next (start .pre .0) (at .loop .inv) (c .before .before .before .before .before .before .before .before .loop-test .taken) (all-messages start) none (c .before .before .before .before .before .if1 .left) (crosses-together (msg-at at) _ _ (c .before .if2 .taken)) (c .later .ensures)
-
-later-requires-2 : tie.Need-later-requires-2 Inv-loop μ-loop
-later-requires-2 c κs = tt
-
-loop-less-3 : tie.Need-loop-less-3 Inv-loop μ-loop
-loop-less-3 c = less-next _ _ (c .before .before .before .before .before .before .before .before .before .before .loop-test .taken)
-
-loop-again-3 : tie.Need-loop-again-3 Inv-loop μ-loop
-loop-again-3 c =
-    let at = c .before .before .before .before .before .before .before .before .before .before .before in
-    let start = at .before .before in
-    gathered-without-next (start .pre .0) (at .loop .inv) (c .before .before .before .before .before .before .before .before .before .before .loop-test .taken) (all-messages start) none (c .before .before .before .before .before .before .before .if1 .left) (crosses-empty (msg-at at) _ _ (c .before .before .before .if2 .left) (c .before .if3 .taken)) (c .later2 .ensures)
+    crosses (msg-at at) (getD (start .args .t3 .machines) (msg-at at .sender - 1) 0) (start .args .machine) ≡ true
+crossing c = sym (c .before .crosses .ensures) ∙ not-false _ (c .if2 .left)
 
 add-try-message : tie.Need-add-try-message Inv-loop μ-loop
-add-try-message c = room-fits _ (room-at (c .before .before .before .before .before .before .before .before .before .before .before .before))
+add-try-message c = room-fits _ (room-at (c .before .before .before .before .before .before .before .before .before .before .before))
 
 try-message-requires : tie.Need-try-message-requires Inv-loop μ-loop
 try-message-requires c κs =
-    let at = c .before .before .before .before .before .before .before .before .before .before .before .before .before in
-    let start = at .before .before in (
-      ask-input (start .pre .0) (at .loop .inv) (c .before .before .before .before .before .before .before .before .before .before .before .before .loop-test .taken) (all-messages start) none (c .before .before .before .before .before .before .before .before .before .if1 .left) (crosses-apart (msg-at at) _ _ (c .before .before .before .before .before .if2 .left) (c .before .before .before .if3 .left)),
-      chained-same (λ i h. at .loop .inv .working .same .resources-same i (let within = start .pre .1 .within in omega arith)) (start .pre .1) (let within = start .pre .1 .within in omega arith),
+    let across = c .before .before .before in
+    let turn = across .before .before .before .before .before .before .before .before in
+    let at = turn .before in
+    let start = at .before .before in
+    let within = start .pre .1 .within in (
+      ask-input (start .pre .0) (at .loop .inv) (turn .loop-test .taken) (all-messages start) none (across .before .before .before .before .before .if1 .left) (crossing across),
+      chained-same (λ i h. at .loop .inv .working .same .resources-same i (omega arith)) (start .pre .1) (omega arith),
     )
 
 add-put : tie.Need-add-put Inv-loop μ-loop
-add-put c = room-fits _ (room-at (c .before .before .before .before .before .before .before .before .before .before .before .before .before))
+add-put c = room-fits _ (room-at (c .before .before .before .before .before .before .before .before .before .before .before .before))
 
 row-is-fit :
     (c : tie.After-try-message Inv-loop μ-loop) →
-    (c .before .before .before .before .before .before .before .before .before .before .before .before .before .before .before .before .args .used + c .before .before .before .before .before .before .before .before .before .before .before .before .before .before .loop .count < room) × Numbered (c .try-message .result .holder) × (c .before .before .before .before .before .before .before .before .before .before .before .before .before .before .loop .count < most-messages + 1) × (c .before .before .before .before .before .before .before .before .before .before .before .before .before .before .loop .cost + c .try-message .result .cost < 2 ^ 63)
+    let at = c .before .before .before .before .before .before .before .before .before .before .before .before .before in
+    (at .before .before .args .used + at .loop .count < room) × Numbered (c .try-message .result .holder) × (at .loop .count < most-messages + 1) × (at .loop .cost + c .try-message .result .cost < 2 ^ 63)
 row-is-fit c =
-    let at = c .before .before .before .before .before .before .before .before .before .before .before .before .before .before in
+    let across = c .before .before .before .before in
+    let turn = across .before .before .before .before .before .before .before .before in
+    let at = turn .before in
     let start = at .before .before in
-    input-fits (start .pre .0) (at .loop .inv) (c .before .before .before .before .before .before .before .before .before .before .before .before .before .loop-test .taken) (all-messages start) none (c .before .before .before .before .before .before .before .before .before .before .if1 .left) (crosses-apart (msg-at at) _ _ (c .before .before .before .before .before .before .if2 .left) (c .before .before .before .before .if3 .left)) _ (c .try-message .ensures)
+    input-fits (start .pre .0) (at .loop .inv) (turn .loop-test .taken) (all-messages start) none (across .before .before .before .before .before .if1 .left) (crossing across) _ (c .try-message .ensures)
 
 put-requires : tie.Need-put-requires Inv-loop μ-loop
 put-requires c κs = let fit = row-is-fit (c .before .before .before) in (fit .0, fit .1)
@@ -138,8 +146,8 @@ mul-rows c = row-fits _ (row-is-fit (c .before .before .before .before) .2)
 array-set-from-rows : tie.Need-array-set-from-rows Inv-loop μ-loop
 array-set-from-rows c = row-is-fit (c .before .before .before .before) .2
 
-later-requires-3 : tie.Need-later-requires-3 Inv-loop μ-loop
-later-requires-3 c κs = tt
+later-requires-2 : tie.Need-later-requires-2 Inv-loop μ-loop
+later-requires-2 c κs = tt
 
 add-cost : tie.Need-add-cost Inv-loop μ-loop
 add-cost c = cost-fits _ (row-is-fit (c .before .before .before .before .before .before) .3)
@@ -147,14 +155,18 @@ add-cost c = cost-fits _ (row-is-fit (c .before .before .before .before .before 
 add-count : tie.Need-add-count Inv-loop μ-loop
 add-count c = let few = row-is-fit (c .before .before .before .before .before .before) .2 in omega arith
 
-loop-less-4 : tie.Need-loop-less-4 Inv-loop μ-loop
-loop-less-4 c = less-next _ _ (c .before .before .before .before .before .before .before .before .before .before .before .before .before .before .before .before .before .before .before .loop-test .taken)
+loop-less-3 : tie.Need-loop-less-3 Inv-loop μ-loop
+loop-less-3 c = less-next _ _ (c .before .before .before .before .before .before .before .before .before .before .before .before .before .before .before .before .before .before .loop-test .taken)
 
-loop-again-4 : tie.Need-loop-again-4 Inv-loop μ-loop
-loop-again-4 c =
-    let at = c .before .before .before .before .before .before .before .before .before .before .before .before .before .before .before .before .before .before .before .before in
+loop-again-3 : tie.Need-loop-again-3 Inv-loop μ-loop
+loop-again-3 c =
+    let tried = c .before .before .before .before .before .before in
+    let across = tried .before .before .before .before in
+    let turn = across .before .before .before .before .before .before .before .before in
+    let at = turn .before in
     let start = at .before .before in
-    gathered-with-next (start .pre .0) (at .loop .inv) (c .before .before .before .before .before .before .before .before .before .before .before .before .before .before .before .before .before .before .before .loop-test .taken) (all-messages start) none (c .before .before .before .before .before .before .before .before .before .before .before .before .before .before .before .before .if1 .left) (crosses-apart (msg-at at) _ _ (c .before .before .before .before .before .before .before .before .before .before .before .before .if2 .left) (c .before .before .before .before .before .before .before .before .before .before .if3 .left)) _ (c .before .before .before .before .before .before .try-message .ensures) (c .before .before .put .ensures .0) (c .before .before .put .ensures .1 .0) (c .before .before .put .ensures .1 .1) (c .before .later3 .ensures)
+    let put = c .before .before .put .ensures in
+    gathered-with-next (start .pre .0) (at .loop .inv) (turn .loop-test .taken) (all-messages start) none (across .before .before .before .before .before .if1 .left) (crossing across) _ (tried .try-message .ensures) (put .0) (put .1 .0) (put .1 .1) (c .before .later2 .ensures)
 
 returns : tie.Need-returns Inv-loop μ-loop
 returns c = gathered-all (c .before .before .before .pre .0) (c .before .loop .inv) (c .loop-test .left)
@@ -177,21 +189,19 @@ try-messages-spec =
     element-copy-out-a
     mul-done
     element-copy-out-done
+    crosses-requires
     later-requires
     loop-less-2
     loop-again-2
-    later-requires-2
-    loop-less-3
-    loop-again-3
     add-try-message
     try-message-requires
     add-put
     put-requires
     mul-rows
     array-set-from-rows
-    later-requires-3
+    later-requires-2
     add-cost
     add-count
-    loop-less-4
-    loop-again-4
+    loop-less-3
+    loop-again-3
     returns)

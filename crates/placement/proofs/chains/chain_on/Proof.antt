@@ -1,4 +1,4 @@
--- `placement::chains::nexts_of` meets its contract: the entries from `left` on are chained.
+-- `placement::chains::chain_on` meets its contract: the entries from `left` on are chained.
 use Prim.Native.Nat.{ℕ, _-_, _+_, _<_}
 use native.Mathlib.Omega.{arith}
 use lib.ListN.{getD}
@@ -6,8 +6,8 @@ use Rattle.placement.specs.Columns.{room}
 use Rattle.placement.specs.Chains.{keys, nodes}
 use Rattle.placement.proofs.Sums.{entry-fits, chain-place, place-fits, node-fits, key-place}
 use Rattle.placement.proofs.Chaining.{MadeOn, on-none, on-down, on-all}
-use Rattle.placement.proofs.chains.nexts_of.Statement.{statement}
-use Rattle.placement.proofs.chains.nexts_of.Tie as tie
+use Rattle.placement.proofs.chains.chain_on.Statement.{statement}
+use Rattle.placement.proofs.chains.chain_on.Tie as tie
 
 abbrev Inv-loop : tie.InvT-loop
 Inv-loop resources count nexts₀ left₀ nexts left = MadeOn resources count nexts left
@@ -16,20 +16,20 @@ abbrev μ-loop : tie.MeasureT-loop
 μ-loop resources count nexts₀ left₀ nexts left = left
 
 loop-holds : tie.Need-loop-holds Inv-loop μ-loop
-loop-holds c = on-none _ _
+loop-holds c = rw (c .pre .1) (on-none _ _)
 
 -- the entry at hand
 entry-there : (c : tie.In-loop Inv-loop μ-loop) → c .before .loop .left - 1 < c .before .before .args .count
 entry-there c = let within = c .before .loop .inv .within in omega (arith, c .loop-test .taken)
 
 entry-below : (c : tie.In-loop Inv-loop μ-loop) → c .before .loop .left - 1 < room
-entry-below c = let there = entry-there c in omega (arith, c .before .before .pre .few)
+entry-below c = let there = entry-there c in omega (arith, c .before .before .pre .0 .few)
 
 entry-place : (c : tie.In-loop Inv-loop μ-loop) → keys + (c .before .loop .left - 1) < nodes
-entry-place c = chain-place _ _ (entry-there c) (c .before .before .pre .few)
+entry-place c = chain-place _ _ (entry-there c) (c .before .before .pre .0 .few)
 
 key-known : (c : tie.In-loop Inv-loop μ-loop) → getD (c .before .before .args .resources .now) (c .before .loop .left - 1) 0 < nodes
-key-known c = key-place _ (c .before .before .pre .known _ (entry-there c))
+key-known c = key-place _ (c .before .before .pre .0 .known _ (entry-there c))
 
 sub-left : tie.Need-sub-left Inv-loop μ-loop
 sub-left c = c .loop-test .taken
@@ -43,35 +43,35 @@ element-copy-out-key c = entry-below c
 mul-next : tie.Need-mul-next Inv-loop μ-loop
 mul-next c = node-fits _ (key-known (c .before))
 
-array-read-next : tie.Need-array-read-next Inv-loop μ-loop
-array-read-next c = key-known (c .before)
+element-copy-out-next : tie.Need-element-copy-out-next Inv-loop μ-loop
+element-copy-out-next c = key-known (c .before)
 
 add-nexts : tie.Need-add-nexts Inv-loop μ-loop
-add-nexts c = place-fits _ (entry-place (c .before))
+add-nexts c = place-fits _ (entry-place (c .before .before))
 
 mul-nexts : tie.Need-mul-nexts Inv-loop μ-loop
-mul-nexts c = node-fits _ (entry-place (c .before))
+mul-nexts c = node-fits _ (entry-place (c .before .before))
 
-array-write-nexts : tie.Need-array-write-nexts Inv-loop μ-loop
-array-write-nexts c = entry-place (c .before)
+element-write-nexts : tie.Need-element-write-nexts Inv-loop μ-loop
+element-write-nexts c = entry-place (c .before .before)
 
 mul-nexts-2 : tie.Need-mul-nexts-2 Inv-loop μ-loop
-mul-nexts-2 c = node-fits _ (key-known (c .before))
+mul-nexts-2 c = node-fits _ (key-known (c .before .before))
 
-array-write-nexts-2 : tie.Need-array-write-nexts-2 Inv-loop μ-loop
-array-write-nexts-2 c = key-known (c .before)
+element-write-nexts-2 : tie.Need-element-write-nexts-2 Inv-loop μ-loop
+element-write-nexts-2 c = key-known (c .before .before)
 
 loop-less : tie.Need-loop-less Inv-loop μ-loop
-loop-less c = omega (arith, c .before .loop-test .taken)
+loop-less c = omega (arith, c .before .before .loop-test .taken)
 
 loop-again : tie.Need-loop-again Inv-loop μ-loop
-loop-again c = on-down (c .before .before .before .pre) (c .before .before .loop .inv) (c .before .loop-test .taken)
+loop-again c = on-down (c .before .before .before .before .pre .0) (c .before .before .before .loop .inv) (c .before .before .loop-test .taken)
 
 returns : tie.Need-returns Inv-loop μ-loop
 returns c = on-all (c .before .loop .inv) (c .loop-test .left)
 
-pub nexts-of-spec : {M : Type 1} → statement M
-nexts-of-spec =
+pub chain-on-spec : {M : Type 1} → statement M
+chain-on-spec =
     tie.close
     (tie.spec
     Inv-loop
@@ -81,12 +81,12 @@ nexts-of-spec =
     mul-key
     element-copy-out-key
     mul-next
-    array-read-next
+    element-copy-out-next
     add-nexts
     mul-nexts
-    array-write-nexts
+    element-write-nexts
     mul-nexts-2
-    array-write-nexts-2
+    element-write-nexts-2
     loop-less
     loop-again
     returns)

@@ -1,4 +1,4 @@
--- `placement::chains::backs_of` meets its contract: the first i entries are chained.
+-- `placement::chains::chain_back` meets its contract: the first i entries are chained.
 use Prim.Native.Nat.{ℕ, _-_, _+_, _<_}
 use native.Mathlib.Omega.{arith}
 use lib.ListN.{getD}
@@ -6,8 +6,8 @@ use Rattle.placement.specs.Columns.{room}
 use Rattle.placement.specs.Chains.{keys, nodes}
 use Rattle.placement.proofs.Sums.{less-next, entry-fits, entry-turn-fits, chain-place, place-fits, node-fits, key-place}
 use Rattle.placement.proofs.Chaining.{MadeBack, back-none, back-more, back-all}
-use Rattle.placement.proofs.chains.backs_of.Statement.{statement}
-use Rattle.placement.proofs.chains.backs_of.Tie as tie
+use Rattle.placement.proofs.chains.chain_back.Statement.{statement}
+use Rattle.placement.proofs.chains.chain_back.Tie as tie
 
 abbrev Inv-loop : tie.InvT-loop
 Inv-loop resources count backs₀ i₀ backs i = MadeBack resources count backs i
@@ -16,17 +16,17 @@ abbrev μ-loop : tie.MeasureT-loop
 μ-loop resources count backs₀ i₀ backs i = count - i
 
 loop-holds : tie.Need-loop-holds Inv-loop μ-loop
-loop-holds c = back-none _ _
+loop-holds c = rw (c .pre .1) (back-none _ _)
 
 -- the entry at hand
 entry-below : (c : tie.In-loop Inv-loop μ-loop) → c .before .loop .i < room
-entry-below c = omega (arith, c .loop-test .taken, c .before .before .pre .few)
+entry-below c = omega (arith, c .loop-test .taken, c .before .before .pre .0 .few)
 
 entry-place : (c : tie.In-loop Inv-loop μ-loop) → keys + c .before .loop .i < nodes
-entry-place c = chain-place _ _ (c .loop-test .taken) (c .before .before .pre .few)
+entry-place c = chain-place _ _ (c .loop-test .taken) (c .before .before .pre .0 .few)
 
 key-known : (c : tie.In-loop Inv-loop μ-loop) → getD (c .before .before .args .resources .now) (c .before .loop .i) 0 < nodes
-key-known c = key-place _ (c .before .before .pre .known _ (c .loop-test .taken))
+key-known c = key-place _ (c .before .before .pre .0 .known _ (c .loop-test .taken))
 
 mul-key : tie.Need-mul-key Inv-loop μ-loop
 mul-key c = entry-fits _ (entry-below c)
@@ -37,38 +37,38 @@ element-copy-out-key c = entry-below c
 mul-back : tie.Need-mul-back Inv-loop μ-loop
 mul-back c = node-fits _ (key-known (c .before))
 
-array-read-back : tie.Need-array-read-back Inv-loop μ-loop
-array-read-back c = key-known (c .before)
+element-copy-out-back : tie.Need-element-copy-out-back Inv-loop μ-loop
+element-copy-out-back c = key-known (c .before)
 
 add-backs : tie.Need-add-backs Inv-loop μ-loop
-add-backs c = place-fits _ (entry-place (c .before))
+add-backs c = place-fits _ (entry-place (c .before .before))
 
 mul-backs : tie.Need-mul-backs Inv-loop μ-loop
-mul-backs c = node-fits _ (entry-place (c .before))
+mul-backs c = node-fits _ (entry-place (c .before .before))
 
-array-write-backs : tie.Need-array-write-backs Inv-loop μ-loop
-array-write-backs c = entry-place (c .before)
+element-write-backs : tie.Need-element-write-backs Inv-loop μ-loop
+element-write-backs c = entry-place (c .before .before)
 
 add-i : tie.Need-add-i Inv-loop μ-loop
-add-i c = entry-turn-fits _ (entry-below (c .before))
+add-i c = entry-turn-fits _ (entry-below (c .before .before))
 
 mul-backs-2 : tie.Need-mul-backs-2 Inv-loop μ-loop
-mul-backs-2 c = node-fits _ (key-known (c .before))
+mul-backs-2 c = node-fits _ (key-known (c .before .before))
 
-array-write-backs-2 : tie.Need-array-write-backs-2 Inv-loop μ-loop
-array-write-backs-2 c = key-known (c .before)
+element-write-backs-2 : tie.Need-element-write-backs-2 Inv-loop μ-loop
+element-write-backs-2 c = key-known (c .before .before)
 
 loop-less : tie.Need-loop-less Inv-loop μ-loop
-loop-less c = less-next _ _ (c .before .loop-test .taken)
+loop-less c = less-next _ _ (c .before .before .loop-test .taken)
 
 loop-again : tie.Need-loop-again Inv-loop μ-loop
-loop-again c = back-more (c .before .before .before .pre) (c .before .before .loop .inv) (c .before .loop-test .taken)
+loop-again c = back-more (c .before .before .before .before .pre .0) (c .before .before .before .loop .inv) (c .before .before .loop-test .taken)
 
 returns : tie.Need-returns Inv-loop μ-loop
 returns c = back-all (c .before .loop .inv) (c .loop-test .left)
 
-pub backs-of-spec : {M : Type 1} → statement M
-backs-of-spec =
+pub chain-back-spec : {M : Type 1} → statement M
+chain-back-spec =
     tie.close
     (tie.spec
     Inv-loop
@@ -77,13 +77,13 @@ backs-of-spec =
     mul-key
     element-copy-out-key
     mul-back
-    array-read-back
+    element-copy-out-back
     add-backs
     mul-backs
-    array-write-backs
+    element-write-backs
     add-i
     mul-backs-2
-    array-write-backs-2
+    element-write-backs-2
     loop-less
     loop-again
     returns)

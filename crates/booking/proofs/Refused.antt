@@ -1,5 +1,5 @@
 -- A call that meets its contract, and is refused, leaves the register that it was handed.
-use mathlib.Core.Path.{_≡_, sym, ap, _∙_}
+use mathlib.Core.Path.{sym, ap, _∙_}
 use borrow.Author.Tests.{ne-eqb}
 use Rattle.rules.specs.Refusals.{Call, accepted}
 use Rattle.rules.proofs.Struck.{step-still}

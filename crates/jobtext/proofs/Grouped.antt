@@ -5,7 +5,7 @@ use Prim.Native.Nat.{ℕ, zero, suc, _+_, _-_, _*_, _≤_, _<_}
 use native.Mathlib.Nat.{suc-mul}
 use native.Mathlib.Omega.{arith}
 use native.Mathlib.Numerals.{add-one}
-use lib.ListN.{length, getD, take, drop, set, replicate, length-append, length-replicate, length-drop}
+use lib.ListN.{length, getD, take, drop, set, replicate, length-append, length-drop}
 use lib.Seq.{take-all, take-append-le, drop-append-le, set-at}
 use Rattle.jobtext.specs.declared.job.Outcome.{Outcome}
 use Rattle.jobtext.specs.declared.job.Outcome.the-variants.{Read, Stopped}
@@ -13,8 +13,8 @@ use Rattle.jobtext.specs.declared.line.Line.{Line}
 use Rattle.jobtext.specs.declared.line.Line.the-variants.{Figure, Refused}
 use Rattle.jobtext.specs.Lines.{Parsed, parsed, refused, followed, Due, line, lines}
 use Rattle.jobtext.specs.JobText.{times, groups, filled}
-use Rattle.jobtext.specs.Answers.{line-said, outcome-said, reached, Group}
-use Rattle.jobtext.proofs.Progress.{onto, line-read, line-refused, lines-next, lines-refused, Progress, starts, stops, group-on, group-stops, ends, outcome-read, outcome-stopped, Whole, lines-whole}
+use Rattle.jobtext.specs.Answers.{line-said, reached, Group}
+use Rattle.jobtext.proofs.Progress.{onto, line-read, line-refused, lines-next, lines-refused, Progress, starts, stops, group-on, group-stops, ends, outcome-read, outcome-stopped, lines-whole}
 
 -- the remaining lengths
 left-over : (n k : ℕ) → k < n → n - k ≡ suc (n - suc k)
@@ -69,13 +69,6 @@ module _ {A : Type 0} (said : List ℕ → A) (blank : A) (dues : List Due) (mos
   module _ (values : List A) (at i : ℕ) (more : i < count) (w : Filled said blank dues most count text from values at i) where
     abbrev here : Progress (times count dues) text from (w .figures) (dues ++ times (count - (i + 1)) dues) at
     here = rw (one-left i more) at (w .progress)
-
-    pub filled-long : count ≤ most → length values ≡ most
-    filled-long h =
-        let a = ap length (w .values-are) ∙ length-append (groups said (length dues) i (w .figures)) (replicate (most - i) blank) in
-        let g = groups-length said (length dues) i (w .figures) in
-        let r = length-replicate (most - i) blank in
-        omega arith
 
     pub filled-more :
         (value : A) (fs : List ℕ) (next : ℕ) → count ≤ most → lines dues text at ≡ parsed fs next → value ≡ said fs →

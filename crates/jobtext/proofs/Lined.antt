@@ -1,6 +1,6 @@
 -- A line, from the comparison of its key and the number after it.
-use mathlib.Core.Path.{_≡_, refl, sym, ap, _∙_}
-use mathlib.Core.Bool.{Bool, true, false, not, _&&_, _||_}
+use mathlib.Core.Path.{_≡_, refl, sym}
+use mathlib.Core.Bool.{true, false, not}
 use mathlib.Core.List.{List}
 use Prim.Native.Nat.{ℕ, _+_, _-_, _≤_, _<_}
 use native.Mathlib.Omega.{arith}
@@ -8,13 +8,11 @@ use lib.Dec.{ltb}
 use lib.ListN.{length, take, drop, length-drop}
 use lib.Seq.{drop-drop, take-all}
 use borrow.Author.Tests.{lt-ltb, le-ltb}
-use Rattle.rules.specs.Refusals.{outside}
 use Rattle.rules.proofs.Sequences.{by-test}
 use Rattle.jobtext.specs.declared.line.Digits.{Digits}
-use Rattle.jobtext.specs.declared.line.Line.{Line}
 use Rattle.jobtext.specs.declared.line.Line.the-variants.{Figure, Refused}
 use Rattle.jobtext.specs.Figures.{value}
-use Rattle.jobtext.specs.Lines.{Parsed, parsed, refused, Due, begins, leading-digits, figure, line}
+use Rattle.jobtext.specs.Lines.{Due, begins, figure, line}
 use Rattle.jobtext.specs.Answers.{NumberIs, is-number, line-said}
 use Rattle.jobtext.proofs.Begun.{key-fits}
 

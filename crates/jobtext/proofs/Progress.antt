@@ -1,6 +1,6 @@
 -- Reading lines in a row: what has been read, and which lines are still due.
 use mathlib.Core.Path.{_≡_, refl, sym, ap, _∙_}
-use mathlib.Core.Bool.{Bool, true, false, not, _&&_, _||_}
+use mathlib.Core.Bool.{true, false, not, _&&_, _||_}
 use mathlib.Core.List.{List, [], _∷_, _++_, append-assoc}
 use Prim.Native.Nat.{ℕ, zero, suc, _+_, _≤_, _<_}
 use native.Mathlib.Omega.{arith}
@@ -12,12 +12,10 @@ use Rattle.rules.specs.Sequences.{sum-of}
 use Rattle.rules.proofs.Sequences.{by-test, and-true, or-false}
 use Rattle.jobtext.specs.declared.line.Line.{Line}
 use Rattle.jobtext.specs.declared.line.Line.the-variants.{Figure, Refused}
-use Rattle.jobtext.specs.declared.job.Outcome.{Outcome}
 use Rattle.jobtext.specs.declared.job.Outcome.the-variants.{Read, Stopped}
 use Rattle.jobtext.specs.Figures.{zero-digit, line-feed, value}
 use Rattle.jobtext.specs.Lines.{Parsed, parsed, refused, followed, Due, any-figure, begins, leading-digits, well-written, figure, line, lines}
-use Rattle.jobtext.specs.JobText.{times}
-use Rattle.jobtext.specs.Answers.{line-said, outcome-said, is-number, reached}
+use Rattle.jobtext.specs.Answers.{line-said, outcome-said, is-number}
 use Rattle.jobtext.proofs.Begun.{key-fits}
 
 -- a parsed value and the rest of it

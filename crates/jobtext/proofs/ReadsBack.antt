@@ -93,16 +93,6 @@ lines-read {text = text} {at = at} (more {due} {dues} {n} {ns} f fs) s =
 pub fits-within : (due : Due) (n : ℕ) → due .least ≤ n → n ≤ due .most → n ≤ largest-figure → Fits due n
 fits-within due n l h s = record { in-range = rw (le-ltb n (due .least) l, le-ltb (due .most) n h) refl; well = decimal-well-written n s }
 
-pub line-reads-back :
-    (due : Due) (n : ℕ) (front rest : List ℕ) → due .least ≤ n → n ≤ due .most → n ≤ largest-figure →
-    line due (front ++ (written-line due n ++ rest)) (length front) ≡ parsed n (length front + length (written-line due n))
-line-reads-back due n front rest l h s = line-reads due n (fits-within due n l h s) (stands-after front (written-line due n) rest)
-
-pub lines-read-back :
-    {dues : List Due} {ns : List ℕ} (front rest : List ℕ) → Fit dues ns →
-    lines dues (front ++ (written-lines dues ns ++ rest)) (length front) ≡ parsed ns (length front + length (written-lines dues ns))
-lines-read-back {dues} {ns} front rest f = lines-read f (stands-after front (written-lines dues ns) rest)
-
 -- Tests over all of a list.
 
 pub all-left : {A : Type 0} (p : A → Bool) (a b : List A) → all-of p (a ++ b) ≡ true → all-of p a ≡ true

@@ -1,16 +1,14 @@
 -- A whole job, stage by stage: its head, its tasks, the count of its messages, its messages.
 use mathlib.Core.Path.{_≡_, refl, sym, ap, _∙_}
-use mathlib.Core.List.{List, [], _∷_, _++_}
-use Prim.Native.Nat.{ℕ, zero, suc, _+_, _≤_, _<_}
+use mathlib.Core.List.{List, [], _∷_}
+use Prim.Native.Nat.{ℕ, zero, suc, _+_, _≤_}
 use native.Mathlib.Omega.{arith}
-use lib.ListN.{length, getD, drop}
+use lib.ListN.{length, getD}
 use Rattle.rules.specs.declared.Task.{Task}
 use Rattle.rules.specs.declared.Message.{Message}
 use Rattle.rules.specs.declared.Job.{Job}
 use Rattle.rules.specs.Words.{most-tasks, most-messages}
 use Rattle.rules.proofs.Sequences.{sum-append}
-use Rattle.jobtext.specs.declared.line.Line.{Line}
-use Rattle.jobtext.specs.declared.line.Line.the-variants.{Figure, Refused}
 use Rattle.jobtext.specs.declared.job.Outcome.{Outcome}
 use Rattle.jobtext.specs.declared.job.Outcome.the-variants.{Read, Stopped}
 use Rattle.jobtext.specs.declared.job.Head.{Head}
@@ -18,7 +16,7 @@ use Rattle.jobtext.specs.declared.job.Head.the-variants.{Counted, Unread
 use Rattle.jobtext.specs.declared.job.JobRead.{JobRead}
 use Rattle.jobtext.specs.Lines.{Parsed, parsed, refused, followed, Due, lines}
 use Rattle.jobtext.specs.JobText.{head-lines, task-lines, count-lines, message-lines, times, groups, task-said, message-said, blank-task, blank-message, filled, job-said, job-text, blank-job}
-use Rattle.jobtext.specs.Answers.{line-said, outcome-said, head-said, answered, Reads, Group, AskMany}
+use Rattle.jobtext.specs.Answers.{head-said, Reads, Group, AskMany}
 use Rattle.jobtext.proofs.Progress.{outcome-read, outcome-stopped, fewest, Whole, lines-whole}
 
 -- The head was read.

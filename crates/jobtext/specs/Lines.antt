@@ -1,8 +1,8 @@
 -- Document 01, "Job text": one line, and lines in a row. Places count bytes from 0 at the start of the text.
 use mathlib.Core.Bool.{Bool, true, false, not, _&&_, _||_, cond}
 use mathlib.Core.List.{List, [], _∷_, _++_}
-use Prim.Native.Nat.{ℕ, zero, suc, _+_}
-use lib.Dec.{ltb, leb, eqb}
+use Prim.Native.Nat.{ℕ, zero, _+_}
+use lib.Dec.{leb, eqb}
 use lib.ListN.{length, getD, drop}
 use Rattle.rules.specs.Refusals.{outside}
 use Rattle.jobtext.specs.Figures.{zero-digit, line-feed, is-digit, value}

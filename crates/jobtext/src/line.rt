@@ -1,8 +1,8 @@
 // One line of a text: a key with its equals sign, digits, and a line feed.
 ghost use mathlib.Core.Path.{_≡_};
 ghost use Prim.Native.Nat.{_+_, _≤_, _<_};
-ghost use lib.ListN.{length, drop};
-ghost use Rattle.jobtext.specs.Lines.{Due, begins, any-figure, line};
+ghost use lib.ListN.{length};
+ghost use Rattle.jobtext.specs.Lines.{begins, any-figure, line};
 ghost use Rattle.jobtext.specs.Answers.{ScanIs, NumberIs, line-said};
 
 // The most digits that a figure has, and the largest figure that they can say.

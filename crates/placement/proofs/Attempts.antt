@@ -1,23 +1,23 @@
 -- A whole trial: from what its messages found, the start that is sought and the row that is made, it is the rules' trial.
-use mathlib.Core.Path.{_≡_, refl, sym, ap, ap₂, _∙_, subst}
+use mathlib.Core.Path.{_≡_, sym, ap, ap₂, _∙_}
 use mathlib.Core.List.{List, [], _∷_, _++_}
 use Prim.Native.Nat.{ℕ, suc, _+_, _*_, _^_, _≤_, _<_}
 use native.Mathlib.Omega.{arith}
 use native.Mathlib.Numerals.{add-one}
-use lib.ListN.{length, getD, take, set, length-set}
+use lib.ListN.{length, take, set, length-set}
 use lib.Seq.{take-suc-set}
 use Rattle.rules.specs.declared.Holder.the-variants.{TaskOn}
 use Rattle.rules.specs.declared.Row.{Row}
 use Rattle.rules.specs.declared.Job.{Job}
 use Rattle.rules.specs.declared.Setup.{Setup}
-use Rattle.rules.specs.Words.{machine, held-by, run-time, largest-time, most-messages, HasMachine, rate}
+use Rattle.rules.specs.Words.{machine, held-by, run-time, most-messages, HasMachine}
 use Rattle.rules.specs.Placing.{least-free, spans-on, task-booking, into, release as rules-release, message-trials, all-arrived, trial-rows, costs, try}
 use Rattle.rules.specs.Bounds.{largest-cost}
 use Rattle.rules.specs.Demands.{InRange}
 use Rattle.rules.proofs.Sequences.{sum-append}
 use Rattle.placement.specs.Columns.{key, tick-bound, spans-of, Searchable, Lasting}
 use Rattle.placement.specs.Asked.{AskTaskRow, on-machine}
-use Rattle.placement.specs.Trials.{AskInputs, AskAttempt, InputsAre, AttemptBounds, AttemptIs, IsTrial, Beside, TriedIs}
+use Rattle.placement.specs.Trials.{AskAttempt, InputsAre, AttemptBounds, AttemptIs, IsTrial, Beside}
 use Rattle.placement.specs.declared.Attempt.{Attempt}
 use Rattle.placement.proofs.Mirror.{mirror-kept, spans-mirror}
 use Rattle.placement.proofs.Passes.{least-below}

@@ -1,5 +1,5 @@
 -- Laws of chains: how they are made, entry by entry, and how a step along one gives the next entry of the resource.
-use mathlib.Core.Path.{_≡_, refl, sym, ap, _∙_, subst}
+use mathlib.Core.Path.{_≡_, sym, ap, _∙_, subst}
 use mathlib.Core.List.{List, _++_}
 use Prim.Native.Nat.{ℕ, _+_, _-_, _≤_, _<_}
 use native.Mathlib.Omega.{arith}
@@ -16,6 +16,7 @@ use Rattle.rules.specs.declared.Job.{Job}
 use Rattle.rules.specs.declared.Setup.{Setup}
 use Rattle.placement.specs.Columns.{key, Mirrors}
 use Rattle.placement.specs.Asked.{Numbered, on-machine, on-link}
+use Rattle.placement.specs.Trials.{Same}
 use Rattle.placement.specs.Placements.{AskPlaceAmong}
 use Rattle.placement.proofs.Placed.{listed-numbered}
 use Rattle.placement.specs.Passes.{NextOf, AfterLastOf}
@@ -69,23 +70,30 @@ module _ {key : ℕ} {rs : List ℕ} {held at left : ℕ} (own : AfterLastOf key
 -- Making: two places are set, that of the entry and that of its resource.
 
 module _ (chain : List ℕ) (long : length chain ≡ nodes) (key at old new : ℕ) (known : key < keys) (few : at < row-limit) where
-  abbrev pub linked : List ℕ
+  abbrev linked : List ℕ
   linked = set (set chain (keys + at) old) key new
 
-  pub linked-long : length linked ≡ nodes
+  linked-long : length linked ≡ nodes
   linked-long = length-set (set chain (keys + at) old) key new ∙ length-set chain (keys + at) old ∙ long
 
-  linked-key : getD linked key 0 ≡ new
-  linked-key = getD-set-same (set chain (keys + at) old) key new 0 (let l = length-set chain (keys + at) old in omega (arith, long))
-
-  linked-entry : getD linked (keys + at) 0 ≡ old
-  linked-entry =
-      getD-set-other (set chain (keys + at) old) key (keys + at) new 0 (λ e. omega arith)
-      ∙ getD-set-same chain (keys + at) old 0 (omega (arith, long))
-
-  -- the places of other resources and entries stay
-  linked-other : (n : ℕ) → (n ≡ key → ⊥) → (n ≡ keys + at → ⊥) → getD linked n 0 ≡ getD chain n 0
-  linked-other n a b = getD-set-other (set chain (keys + at) old) key n new 0 a ∙ getD-set-other chain (keys + at) n old 0 b
+  -- what holds of the new value at the resource's place, of the old one at the entry's, and of the others as they were, holds at every place
+  linked-case :
+      (P : ℕ → Type 0) (n : ℕ) → (n ≡ key → P new) → (n ≡ keys + at → P old) → ((n ≡ key → ⊥) → (n ≡ keys + at → ⊥) → P (getD chain n 0)) → P (getD linked n 0)
+  linked-case P n of-key of-entry of-other =
+      let within = length-set chain (keys + at) old in
+      by-test
+      (eqb n key)
+      (λ t.
+      let same = eqb-true n key t in
+      rw (same, getD-set-same (set chain (keys + at) old) key new 0 (omega (arith, long))) (of-key same))
+      (λ t.
+      let apart = eqb-false n key t in
+      rw
+      (getD-set-other (set chain (keys + at) old) key n new 0 apart)
+      (by-test
+      (eqb n (keys + at))
+      (λ u. let same = eqb-true n (keys + at) u in rw (same, getD-set-same chain (keys + at) old 0 (omega (arith, long))) (of-entry same))
+      (λ u. let other = eqb-false n (keys + at) u in rw (getD-set-other chain (keys + at) n old 0 other) (of-other apart other))))
 
 -- the first chain, made from the last entry to the first: those from `left` on are in it
 pub record MadeOn (rs : List ℕ) (count : ℕ) (nexts : List ℕ) (left : ℕ) : Type 0 where
@@ -108,8 +116,8 @@ next-below {rs = rs} {i = i} next other =
       here = next .here;
     }
 
-pub on-none : (rs : List ℕ) (count : ℕ) → MadeOn rs count (replicate nodes count) count
-on-none rs count =
+pub made-on-none : (rs : List ℕ) (count : ℕ) → MadeOn rs count (replicate nodes count) count
+made-on-none rs count =
     record {
       long = length-replicate nodes count;
       within = omega arith;
@@ -117,43 +125,44 @@ on-none rs count =
       next = λ i a b. absurd (omega arith);
     }
 
-on-more :
+made-on-more :
     {rs : List ℕ} {count : ℕ} {nexts : List ℕ} {left : ℕ} → Keyed rs count → MadeOn rs count nexts (left + 1) →
     MadeOn rs count (set (set nexts (keys + left) (getD nexts (getD rs left 0) 0)) (getD rs left 0) left) left
-on-more {rs} {count} {nexts} {left} ask made =
+made-on-more {rs} {count} {nexts} {left} ask made =
     let within = made .within in
     let few = ask .few in
     let key = getD rs left 0 in
     let known = ask .known left (omega arith) in
     let old = getD nexts key 0 in
     let long = made .long in
+    let case = linked-case nexts long key left old left known (omega arith) in
     record {
       long = linked-long nexts long key left old left known (omega arith);
       within = omega arith;
       first =
           λ k h.
-          by-test
-          (eqb k key)
-          (λ t. let same = eqb-true k key t in rw (same, linked-key nexts long key left old left known (omega arith)) (next-here (omega arith) refl))
-          (λ t.
-          let other = eqb-false k key t in
-          rw (linked-other nexts long key left old left known (omega arith) k other (λ e. omega arith)) (next-below (made .first k h) (λ e. other (sym e))));
+          case
+          (λ x. NextOf k rs count left x)
+          k
+          (λ same. next-here (omega arith) (sym same))
+          (λ e. absurd (omega arith))
+          (λ apart _. next-below (made .first k h) (λ e. apart (sym e)));
       next =
           λ i a b.
-          by-test
-          (eqb i left)
-          (λ t. let same = eqb-true i left t in rw (same, linked-entry nexts long key left old left known (omega arith)) (made .first key known))
-          (λ t.
-          let other = eqb-false i left t in
-          rw (linked-other nexts long key left old left known (omega arith) (keys + i) (λ e. omega (arith, known)) (λ e. other (omega arith))) (made .next i (omega (arith, other)) b));
+          case
+          (λ x. NextOf (getD rs i 0) rs count (i + 1) x)
+          (keys + i)
+          (λ e. absurd (omega (arith, known)))
+          (λ e. let same : i ≡ left = omega arith in rw same (made .first key known))
+          (λ _ other. made .next i (let apart : i ≡ left → ⊥ = λ e. other (omega arith) in omega (arith, apart)) b);
     }
 
-pub on-down :
+pub made-on-down :
     {rs : List ℕ} {count : ℕ} {nexts : List ℕ} {left : ℕ} → Keyed rs count → MadeOn rs count nexts left → 0 < left →
     MadeOn rs count (set (set nexts (keys + (left - 1)) (getD nexts (getD rs (left - 1) 0) 0)) (getD rs (left - 1) 0) (left - 1)) (left - 1)
-on-down {rs} {count} {nexts} {left} ask made more =
+made-on-down {rs} {count} {nexts} {left} ask made more =
     let one : left ≡ left - 1 + 1 = omega arith in
-    on-more ask (subst (λ (n : ℕ). MadeOn rs count nexts n) one made)
+    made-on-more ask (subst (λ (n : ℕ). MadeOn rs count nexts n) one made)
 
 -- the second, made from the first entry to the last: the first i are in it
 pub record MadeBack (rs : List ℕ) (count : ℕ) (backs : List ℕ) (i : ℕ) : Type 0 where
@@ -177,8 +186,8 @@ last-above {rs = rs} {i = i} last other =
       here = last .here;
     }
 
-pub back-none : (rs : List ℕ) (count : ℕ) → MadeBack rs count (replicate nodes 0) 0
-back-none rs count =
+pub made-back-none : (rs : List ℕ) (count : ℕ) → MadeBack rs count (replicate nodes 0) 0
+made-back-none rs count =
     record {
       long = length-replicate {A = ℕ} nodes 0;
       within = omega arith;
@@ -186,34 +195,35 @@ back-none rs count =
       back = λ j b. absurd (omega arith);
     }
 
-pub back-more :
+pub made-back-more :
     {rs : List ℕ} {count : ℕ} {backs : List ℕ} {i : ℕ} → Keyed rs count → MadeBack rs count backs i → i < count →
     MadeBack rs count (set (set backs (keys + i) (getD backs (getD rs i 0) 0)) (getD rs i 0) (i + 1)) (i + 1)
-back-more {rs} {count} {backs} {i} ask made more =
+made-back-more {rs} {count} {backs} {i} ask made more =
     let few = ask .few in
     let key = getD rs i 0 in
     let known = ask .known i more in
     let old = getD backs key 0 in
     let long = made .long in
+    let case = linked-case backs long key i old (i + 1) known (omega arith) in
     record {
       long = linked-long backs long key i old (i + 1) known (omega arith);
       within = omega arith;
       last =
           λ k h.
-          by-test
-          (eqb k key)
-          (λ t. let same = eqb-true k key t in rw (same, linked-key backs long key i old (i + 1) known (omega arith)) (last-here i refl))
-          (λ t.
-          let other = eqb-false k key t in
-          rw (linked-other backs long key i old (i + 1) known (omega arith) k other (λ e. omega arith)) (last-above (made .last k h) (λ e. other (sym e))));
+          case
+          (λ x. AfterLastOf k rs 0 (i + 1) x)
+          k
+          (λ same. last-here i (sym same))
+          (λ e. absurd (omega arith))
+          (λ apart _. last-above (made .last k h) (λ e. apart (sym e)));
       back =
           λ j b.
-          by-test
-          (eqb j i)
-          (λ t. let same = eqb-true j i t in rw (same, linked-entry backs long key i old (i + 1) known (omega arith)) (made .last key known))
-          (λ t.
-          let other = eqb-false j i t in
-          rw (linked-other backs long key i old (i + 1) known (omega arith) (keys + j) (λ e. omega (arith, known)) (λ e. other (omega arith))) (made .back j (omega (arith, other))));
+          case
+          (λ x. AfterLastOf (getD rs j 0) rs 0 j x)
+          (keys + j)
+          (λ e. absurd (omega (arith, known)))
+          (λ e. let same : j ≡ i = omega arith in rw same (made .last key known))
+          (λ _ other. made .back j (let apart : j ≡ i → ⊥ = λ e. other (omega arith) in omega (arith, apart)));
     }
 
 -- Chains read the resources of the held entries alone.
@@ -239,7 +249,7 @@ module _ {rs rs′ : List ℕ} {held : ℕ} (same : (i : ℕ) → i < held → g
         here = λ p. same _ (omega arith) ∙ last .here p;
       }
 
-  pub chained-same : {nexts backs : List ℕ} {used used′ : ℕ} → Chained rs nexts backs held used → held ≤ used′ → Chained rs′ nexts backs held used′
+  chained-same : {nexts backs : List ℕ} {used used′ : ℕ} → Chained rs nexts backs held used → held ≤ used′ → Chained rs′ nexts backs held used′
   chained-same {nexts} {backs} chained h =
       record {
         few = chained .few;
@@ -254,22 +264,28 @@ module _ {rs rs′ : List ℕ} {held : ℕ} (same : (i : ℕ) → i < held → g
         };
       }
 
-pub on-all : {rs : List ℕ} {count : ℕ} {nexts : List ℕ} {left : ℕ} → MadeOn rs count nexts left → left ≤ 0 → ChainOn rs count nexts
-on-all {rs} {count} {nexts} {left} made end =
+pub made-on-all : {rs : List ℕ} {count : ℕ} {nexts : List ℕ} {left : ℕ} → MadeOn rs count nexts left → left ≤ 0 → ChainOn rs count nexts
+made-on-all {rs} {count} {nexts} {left} made end =
     let none : left ≡ 0 = omega arith in
     record {
       first = λ key h. subst (λ (from : ℕ). NextOf key rs count from (getD nexts key 0)) none (made .first key h);
       next = λ i h. made .next i (omega arith) h;
     }
 
-pub back-all : {rs : List ℕ} {count : ℕ} {backs : List ℕ} {i : ℕ} → MadeBack rs count backs i → count ≤ i → ChainBack rs count backs
-back-all {rs} {count} {backs} {i} made end =
+pub made-back-all : {rs : List ℕ} {count : ℕ} {backs : List ℕ} {i : ℕ} → MadeBack rs count backs i → count ≤ i → ChainBack rs count backs
+made-back-all {rs} {count} {backs} {i} made end =
     let within = made .within in
     let all : i ≡ count = omega arith in
     record {
       last = λ key h. subst (λ (below : ℕ). AfterLastOf key rs 0 below (getD backs key 0)) all (made .last key h);
       back = λ j h. made .back j (omega arith);
     }
+
+-- columns that are as they were up to those used
+pub chained-kept :
+    {rs starts finishes rs′ starts′ finishes′ nexts backs : List ℕ} {held used used′ : ℕ} →
+    Chained rs nexts backs held used → Same rs starts finishes rs′ starts′ finishes′ used → used ≤ used′ → Chained rs′ nexts backs held used′
+chained-kept chained same more = let within = chained .within in chained-same (λ i h. same .resources-same i (omega arith)) chained (omega arith)
 
 -- what a pass asks, of what a search asks
 module _ {key : ℕ} {rs nexts backs : List ℕ} {held count : ℕ} (ask : (key < keys) × Chained rs nexts backs held count) where

@@ -1,34 +1,33 @@
 -- The loop over the messages of a trial: what holds after i of them, and what each kind of turn keeps.
 use mathlib.Core.Path.{_≡_, refl, sym, ap, _∙_, subst}
 use mathlib.Core.Logic.{⊎-elim}
-use mathlib.Core.Bool.{Bool, true, false, not, cond}
-use mathlib.Core.List.{List, [], _∷_, _++_, append-nil, append-assoc, List·Memᴰ, List·Memᴰ·append-cases, List·Memᴰ·eq-of-singleton, Memᴰ·append-left}
+use mathlib.Core.Bool.{true, false}
+use mathlib.Core.List.{List, [], _∷_, _++_, append-nil, append-assoc, List·Memᴰ, List·Memᴰ·append-cases, List·Memᴰ·eq-of-singleton}
 use Prim.Native.Nat.{ℕ, suc, _+_, _*_, _-_, _^_, _≤_, _<_, max}
 use native.Mathlib.Omega.{arith}
 use native.Mathlib.Numerals.{add-one}
-use native.Mathlib.Nat.{mul-le-mul, one-le-mul}
-use lib.Dec.{eqb, ltb}
-use lib.ListN.{length, getD, take, drop, set, length-set, length-take, take-append-drop}
-use lib.Seq.{take-suc, take-suc-set, take-take, getD-take, getD-set-same, getD-set-other}
-use borrow.Author.Tests.{eqb-true, eqb-false, eq-eqb, ne-eqb, not-true, ltb-true, lt-ltb, le-ltb}
+use native.Mathlib.Nat.{mul-le-mul}
+use lib.Dec.{eqb}
+use lib.ListN.{length, getD, take, set, length-set, length-take}
+use lib.Seq.{take-suc, take-suc-set, getD-take, getD-set-same, getD-set-other}
+use borrow.Author.Tests.{eqb-true, eqb-false, eq-eqb}
 use Rattle.rules.specs.declared.Holder.the-variants.{MessageOn}
 use Rattle.rules.specs.declared.Row.{Row}
 use Rattle.rules.specs.declared.Message.{Message}
 use Rattle.rules.specs.declared.Job.{Job}
 use Rattle.rules.specs.declared.Setup.{Setup}
-use Rattle.rules.specs.Sequences.{any-of, keep, cons-if}
-use Rattle.rules.specs.Words.{Span, link, held-by, messages-of, horizon, largest-volume, most-tasks, most-messages, link-time, HasMachine, HasLink}
-use Rattle.rules.specs.Placing.{least-free, spans-on, transfer, message-booking, task-row, machine-for, crosses, into, books-message, placed, message-trials, all-arrived}
-use Rattle.rules.specs.Bounds.{Sound, Between, largest-cost}
+use Rattle.rules.specs.Sequences.{keep}
+use Rattle.rules.specs.Words.{link, held-by, messages-of, most-tasks, most-messages, HasLink}
+use Rattle.rules.specs.Placing.{least-free, spans-on, transfer, message-booking, task-row, machine-for, crosses, into, placed, message-trials, all-arrived}
+use Rattle.rules.specs.Bounds.{largest-cost}
 use Rattle.rules.specs.Demands.{InRange}
-use Rattle.rules.proofs.Sequences.{keep-append, keep-mem, mem-keep, and-true, getD-mem, by-test}
-use Rattle.rules.proofs.Pairs.{Pairwise, pairwise-keep, pairwise-front}
+use Rattle.rules.proofs.Sequences.{keep-mem, getD-mem, by-test}
+use Rattle.rules.proofs.Pairs.{Pairwise}
 use Rattle.rules.proofs.Inputs.{Differ}
-use Rattle.rules.proofs.Differ.{in-range-differ}
-use Rattle.rules.proofs.LeastTick.{least-is-least, least-at-most}
-use Rattle.placement.specs.Columns.{key, room, entry, Widths, Mirrors, spans-of}
-use Rattle.placement.specs.Asked.{Numbered, on-link, Stands}
-use Rattle.placement.specs.Trials.{Beside, TriedIs, Same, Used, AskInput, AskInputs, InputsAre, InputIs, reach}
+use Rattle.rules.proofs.LeastTick.{least-at-most}
+use Rattle.placement.specs.Columns.{key, room, Widths, Mirrors, spans-of}
+use Rattle.placement.specs.Asked.{Numbered, on-link}
+use Rattle.placement.specs.Trials.{Beside, Same, AskInput, AskInputs, InputsAre, InputIs, reach}
 use Rattle.placement.proofs.Passes.{spans-of-mem}
 use Rattle.placement.proofs.Mirror.{spans-mirror, mirror-more}
 use Rattle.placement.proofs.Gathering.{into-first, Tried, tried-without, tried-with}

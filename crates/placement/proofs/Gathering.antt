@@ -1,31 +1,22 @@
 -- The messages of a trial, one after the other: the rows found so far are those of the rules, and their spans stand past those used.
 use mathlib.Core.Path.{_≡_, refl, sym, ap, _∙_, subst}
-use mathlib.Core.Logic.{⊎-elim}
-use mathlib.Core.Bool.{Bool, true, false, not, cond}
-use mathlib.Core.List.{List, [], _∷_, _++_, append-nil, append-assoc, List·Memᴰ, List·Memᴰ·head, List·Memᴰ·tail, List·Memᴰ·append-cases, List·Memᴰ·cases-cons, List·Memᴰ·not-nil, Memᴰ·append-left, Memᴰ·append-right}
-use Prim.Native.Nat.{ℕ, zero, suc, _+_, _*_, _-_, _≤_, _<_, max}
+use mathlib.Core.Bool.{true, false}
+use mathlib.Core.List.{List, [], _∷_, _++_, append-nil, append-assoc, List·Memᴰ, List·Memᴰ·head, List·Memᴰ·tail, Memᴰ·append-left, Memᴰ·append-right}
+use Prim.Native.Nat.{ℕ, _+_, _-_, max}
 use native.Mathlib.Omega.{arith}
-use lib.Dec.{eqb, ltb}
-use lib.ListN.{length, getD, take, set, length-set}
-use lib.Seq.{take-suc, getD-set-same, getD-set-other}
-use Rattle.rules.specs.declared.Holder.the-variants.{MessageOn}
+use lib.Dec.{eqb}
+use lib.ListN.{take}
 use Rattle.rules.specs.declared.Row.{Row}
 use Rattle.rules.specs.declared.Message.{Message}
 use Rattle.rules.specs.declared.Job.{Job}
 use Rattle.rules.specs.declared.Setup.{Setup}
-use Rattle.rules.specs.Sequences.{any-of, keep, cons-if, first-or, sum-of}
-use Rattle.rules.specs.Words.{link, messages-of, horizon}
-use Rattle.rules.specs.Placing.{least-free, spans-on, transfer, message-booking, books-task, books-message, no-row, task-row, message-row, machine-for, placed, crosses, arrival, into, message-trial, message-trials, all-arrived, costs}
-use Rattle.rules.specs.Demands.{InRange}
-use Rattle.rules.proofs.Sequences.{by-test, clash, keep-append, any-append, or-right, first-append, first-skip, sum-append, mem-keep, keep-mem}
-use Rattle.rules.proofs.Pairs.{Pairwise, pairwise-keep, pairwise-front, pairwise-across}
-use Rattle.rules.proofs.Inputs.{Differ, crossing, booking, Booked, message-trials-book, booked-none, booked-found, Found, pair-books}
+use Rattle.rules.specs.Sequences.{any-of, keep}
+use Rattle.rules.specs.Words.{link}
+use Rattle.rules.specs.Placing.{least-free, spans-on, transfer, message-booking, books-task, books-message, no-row, task-row, machine-for, placed, crosses, arrival, into, message-trial, message-trials, all-arrived, costs}
+use Rattle.rules.proofs.Sequences.{any-append, or-right, first-append, first-skip, sum-append}
+use Rattle.rules.proofs.Pairs.{Pairwise, pairwise-front, pairwise-across}
+use Rattle.rules.proofs.Inputs.{Differ, crossing, booking, Booked, message-trials-book, booked-none, booked-found, pair-books}
 use Rattle.rules.proofs.Due.{arrival-stays}
-use Rattle.rules.proofs.Differ.{in-range-differ}
-use Rattle.placement.specs.Columns.{key, room, Widths, Mirrors, spans-of}
-use Rattle.placement.specs.Asked.{Numbered, Stands}
-use Rattle.placement.specs.Trials.{Beside, TriedIs, Same, reach}
-use Rattle.placement.proofs.Mirror.{spans-mirror, mirror-more}
 
 -- Lists of messages.
 

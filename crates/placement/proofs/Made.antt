@@ -13,17 +13,12 @@ use Rattle.rules.specs.Placing.{no-row}
 use Rattle.rules.proofs.Sequences.{by-test}
 use Rattle.placement.specs.Columns.{ColumnOf}
 
--- the first i entries are a figure, or a test, of the first i rows
-pub record Made {A : Type 0} (d : A) (of : Row → A) (rows : List Row) (column : List A) (i : ℕ) : Type 0 where
-  pub long : length column ≡ row-limit
-  pub is : (k : ℕ) → k < i → getD column k d ≡ of (getD rows k no-row)
-
-pub made-none : {A : Type 0} (d : A) (of : Row → A) (rows : List Row) (column : List A) → length column ≡ row-limit → Made d of rows column 0
+pub made-none : {A : Type 0} (d : A) (of : Row → A) (rows : List Row) (column : List A) → length column ≡ row-limit → ColumnOf d of rows 0 column
 made-none d of rows column long = record { long = long; is = λ k h. absurd (omega arith) }
 
 pub made-more :
-    {A : Type 0} {d : A} {of : Row → A} {rows : List Row} {column : List A} {i : ℕ} → Made d of rows column i → i < row-limit → (x : A) →
-    x ≡ of (getD rows i no-row) → Made d of rows (set column i x) (suc i)
+    {A : Type 0} {d : A} {of : Row → A} {rows : List Row} {column : List A} {i : ℕ} → ColumnOf d of rows i column → i < row-limit → (x : A) →
+    x ≡ of (getD rows i no-row) → ColumnOf d of rows (suc i) (set column i x)
 made-more {d = d} {of} {rows} {column} {i} m h x e = record {
   long = length-set column i x ∙ m .long;
   is =
@@ -34,5 +29,7 @@ made-more {d = d} {of} {rows} {column} {i} m h x e = record {
       (λ q. let other = eqb-false k i q in getD-set-other column i k x d other ∙ m .is k (omega (arith, other)));
 }
 
-pub made-column : {of : Row → ℕ} {rows : List Row} {column : List ℕ} {count i : ℕ} → Made 0 of rows column i → count ≤ i → ColumnOf of rows count column
-made-column m all = record { long = m .long; is = λ k h. m .is k (omega arith) }
+-- a column up to a count is one up to a lesser count
+pub made-fewer :
+    {A : Type 0} {d : A} {of : Row → A} {rows : List Row} {column : List A} {count i : ℕ} → ColumnOf d of rows i column → count ≤ i → ColumnOf d of rows count column
+made-fewer m all = record { long = m .long; is = λ k h. m .is k (omega arith) }

@@ -15,7 +15,7 @@ use Rattle.rules.specs.Sequences.{cons-if, keep}
 use Rattle.rules.specs.Words.{Resource, machine, link, same, held-by, resource, span, HasMachine, HasLink}
 use Rattle.rules.specs.Placing.{spans-on, no-row}
 use Rattle.rules.proofs.Sequences.{by-test, clash, and-true, and-both, keep-append, getD-mem}
-use Rattle.placement.specs.Columns.{key, spans-of, tick-bound, room, Lasting, Widths, Mirrors}
+use Rattle.placement.specs.Columns.{key, spans-of, room, Widths, Mirrors}
 use Rattle.placement.specs.Asked.{Numbered, on-machine, on-link}
 
 -- The number of a resource.
@@ -158,20 +158,6 @@ widths-kept {resources} {starts} {finishes} n a b c w =
       starts-long = length-set starts n b ∙ w .starts-long;
       finishes-long = length-set finishes n c ∙ w .finishes-long;
     }
-
-pub mirror-lasting :
-    {rows : List Row} {resources starts finishes : List ℕ} {n : ℕ} →
-    Mirrors rows resources starts finishes n → n ≤ room →
-    ((row : Row) → List·Memᴰ row rows → (row .start < row .finish) × (row .finish < tick-bound)) → Lasting starts finishes n
-mirror-lasting {rows} {resources} {starts} {finishes} {n} m within range =
-    record {
-      within = within;
-      lasts = λ i h. rw (m .starts-are i h, m .finishes-are i h) (at i h .0);
-      ends = λ i h. rw (m .finishes-are i h) (at i h .1);
-    }
-  where
-    at : (i : ℕ) → i < n → (getD rows i no-row .start < getD rows i no-row .finish) × (getD rows i no-row .finish < tick-bound)
-    at i h = let all = m .all in range (getD rows i no-row) (getD-mem rows i no-row (omega arith))
 
 -- The columns of the first rows of an array, row by row.
 

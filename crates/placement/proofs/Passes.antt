@@ -10,9 +10,9 @@ use lib.Dec.{eqb, leb}
 use lib.ListN.{getD}
 use borrow.Author.Tests.{ltb-true, lt-ltb, le-ltb, leb-true, leb-false, eq-eqb, ne-eqb}
 use Rattle.rules.specs.Sequences.{any-of, cons-if}
-use Rattle.rules.specs.Words.{Span, Within, meets}
+use Rattle.rules.specs.Words.{Span, meets}
 use Rattle.rules.specs.Placing.{free, least-free}
-use Rattle.rules.specs.Laws.{Free, IsLeast}
+use Rattle.rules.specs.Laws.{Free}
 use Rattle.rules.proofs.Sequences.{by-test}
 use Rattle.rules.proofs.LeastTick.{free-true, meets-shares, least-is-least, least-unique, least-at-most}
 use Rattle.placement.specs.Columns.{entry, spans-of, tick-bound, Lasting}
@@ -264,13 +264,13 @@ looked-more key rs count from i h w e =
       none = λ j a b q. by-test (leb i j) (λ t. let l = leb-true i j t in let same : j ≡ i = omega arith in e (ap (λ n. getD rs n 0) (sym same) ∙ q)) (λ t. w .none j a (leb-false i j t) q);
     }
 
-pub record LookedBack (key : ℕ) (rs : List ℕ) (floor below i : ℕ) : Type 0 where
-  pub down : floor ≤ i
+pub record LookedBack (key : ℕ) (rs : List ℕ) (from below i : ℕ) : Type 0 where
+  pub down : from ≤ i
   pub within : i ≤ below
   pub none : (j : ℕ) → i ≤ j → j < below → getD rs j 0 ≡ key → ⊥
 
-pub back-looked-more : (key : ℕ) (rs : List ℕ) (floor below i : ℕ) → floor < i → LookedBack key rs floor below i → (getD rs (i - 1) 0 ≡ key → ⊥) → LookedBack key rs floor below (i - 1)
-back-looked-more key rs floor below i h w e =
+pub back-looked-more : (key : ℕ) (rs : List ℕ) (from below i : ℕ) → from < i → LookedBack key rs from below i → (getD rs (i - 1) 0 ≡ key → ⊥) → LookedBack key rs from below (i - 1)
+back-looked-more key rs from below i h w e =
     let within = w .within in
     record {
       down = omega arith;

@@ -1,9 +1,9 @@
 -- The loop over the turns of a job: after each, what is left to place of the rules' placing starts from the rows booked so far.
-use mathlib.Core.Path.{_≡_, refl, sym, ap, ap₂, _∙_, subst}
+use mathlib.Core.Path.{_≡_, refl, sym, ap, _∙_, subst}
 use mathlib.Core.Logic.{_≢_, ⊎-elim}
-use mathlib.Core.Bool.{Bool, true, false, not, _||_, _&&_, or-false as or-none}
+use mathlib.Core.Bool.{true, false, not, _||_, or-false as or-none}
 use mathlib.Core.List.{List, [], _∷_, _++_, append-nil, append-assoc}
-use mathlib.Core.List.{List·Memᴰ, List·Memᴰ·append-cases, Memᴰ·append-left, Memᴰ·append-right, List·Memᴰ·not-nil, List·Memᴰ·head, List·Memᴰ·tail}
+use mathlib.Core.List.{List·Memᴰ, List·Memᴰ·append-cases, Memᴰ·append-right, List·Memᴰ·not-nil, List·Memᴰ·head, List·Memᴰ·tail}
 use mathlib.Core.Option.{Option, none, some}
 use Prim.Native.Nat.{ℕ, zero, suc, _+_, _*_, _-_, _≤_, _<_}
 use native.Mathlib.Nat.{sub-zero}
@@ -11,22 +11,22 @@ use native.Mathlib.Omega.{arith}
 use lib.Dec.{ltb, eqb}
 use lib.ListN.{length, getD, take, set, replicate, length-set, length-append, length-take, length-replicate, getD-replicate}
 use lib.Seq.{getD-take, length-take-le, getD-set-same, getD-set-other}
-use borrow.Author.Tests.{eqb-true, eqb-false, eq-eqb, ne-eqb, lt-ltb, ltb-true, ltb-false, not-true}
+use borrow.Author.Tests.{eqb-true, eqb-false, eq-eqb, lt-ltb, ltb-false, not-true}
 use Rattle.rules.specs.declared.Holder.{Holder}
 use Rattle.rules.specs.declared.Row.{Row}
 use Rattle.rules.specs.declared.Message.{Message}
 use Rattle.rules.specs.declared.Job.{Job}
 use Rattle.rules.specs.declared.Setup.{Setup}
-use Rattle.rules.specs.Sequences.{any-of, all-of}
-use Rattle.rules.specs.Words.{horizon, row-limit, most-tasks, most-messages, messages-of, task-of, HasMachine, HasLink}
-use Rattle.rules.specs.Placing.{is-task, books-task, books-message, no-row, task-row, machine-of, machine-for, placed, into, ready, next-task, release as rules-release, Trial, trial-rows, costs, try, choice, Turn, over, misses, books, turn, Placing, booked, late, place-from, place}
-use Rattle.rules.specs.Laws.{IsTask, IsNext, IsKept}
+use Rattle.rules.specs.Sequences.{all-of}
+use Rattle.rules.specs.Words.{row-limit, most-tasks, messages-of}
+use Rattle.rules.specs.Placing.{is-task, books-task, no-row, task-row, machine-of, machine-for, placed, into, ready, next-task, Trial, trial-rows, costs, try, choice, Turn, over, misses, books, turn, Placing, booked, late, place-from, place}
+use Rattle.rules.specs.Laws.{IsNext, IsKept}
 use Rattle.rules.specs.Bounds.{Sound, Between, Listed, task, message, RowInRange, largest-cost}
 use Rattle.rules.specs.Demands.{InRange}
-use Rattle.rules.proofs.Sequences.{by-test, clash, and-true, or-cases, or-right, any-append, all-mem, mem-keep, first-append, first-skip, first-mem, first-holds, sum-append, getD-mem}
+use Rattle.rules.proofs.Sequences.{by-test, clash, and-true, or-cases, or-right, any-append, all-mem, mem-keep, first-append, first-skip, first-mem, sum-append, getD-mem}
 use Rattle.rules.proofs.Choice.{next-is-next, choice-kept}
-use Rattle.rules.proofs.Inputs.{Shape, try-shape, booked-no-task}
-use Rattle.rules.proofs.Due.{Progress, progress-none}
+use Rattle.rules.proofs.Inputs.{try-shape, booked-no-task}
+use Rattle.rules.proofs.Due.{progress-none}
 use Rattle.rules.proofs.AllPlaced.{choice-places}
 use Rattle.rules.proofs.Order.{in-range-count, in-range-messages, in-range-ends, in-range-volume}
 use Rattle.rules.proofs.Bounds.{InBounds, turn-in-bounds, task-figures, scheduling-figure}
@@ -73,7 +73,7 @@ next-some (suc t) ne e = sym e
 pub next-none : {o : Option ℕ} {t : ℕ} → t ≡ 0 → next-of t ≡ o → o ≡ none
 next-none z e = sym e ∙ ap next-of z
 
-placing-late : (rows : List Row) (t : ℕ) → 1 ≤ t → placing-of t rows ≡ late t
+pub placing-late : (rows : List Row) (t : ℕ) → 1 ≤ t → placing-of t rows ≡ late t
 placing-late rows zero h = absurd (omega arith)
 placing-late rows (suc t) h = refl
 

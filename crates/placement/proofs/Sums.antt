@@ -97,9 +97,6 @@ own-all-fits n h = omega arith
 pub machine-below : (m n : ℕ) → m < n → n ≤ most-machines → m < 4
 machine-below m n h k = omega arith
 
-pub on-machine-below : (m n : ℕ) → 1 ≤ m → m ≤ n → n ≤ most-machines → m - 1 < 4
-on-machine-below m n l h k = omega arith
-
 pub machine-fits : (m : ℕ) → m < 4 → Fits w64 (m * 8)
 machine-fits m h = omega arith
 

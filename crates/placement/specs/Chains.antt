@@ -20,7 +20,7 @@ pub record ChainOn (resources : List ℕ) (count : ℕ) (nexts : List ℕ) : Typ
   pub first : (key : ℕ) → key < keys → NextOf key resources count 0 (getD nexts key 0)
   pub next : (i : ℕ) → i < count → NextOf (getD resources i 0) resources count (i + 1) (getD nexts (keys + i) 0)
 
--- each place says just past which entry the one before is, or 0
+-- each place says the place just past the entry of the resource before it, or 0
 pub record ChainBack (resources : List ℕ) (count : ℕ) (backs : List ℕ) : Type 0 where
   pub last : (key : ℕ) → key < keys → AfterLastOf key resources 0 count (getD backs key 0)
   pub back : (i : ℕ) → i < count → AfterLastOf (getD resources i 0) resources 0 i (getD backs (keys + i) 0)
@@ -42,7 +42,7 @@ pub record AskAlong (key held : ℕ) : Type 0 where
   pub few : held ≤ row-limit
   pub known : key < keys
 
--- along the first chain, from an entry of the resource
+-- forwards, from an entry of the resource
 pub record AskFollowing (key : ℕ) (resources : List ℕ) (held count at : ℕ) : Type 0 where
   pub along : AskAlong key held
   pub within : held ≤ count
@@ -50,7 +50,7 @@ pub record AskFollowing (key : ℕ) (resources : List ℕ) (held count at : ℕ)
   pub there : at < count
   pub here : getD resources at 0 ≡ key
 
--- along the second, from an entry of the resource or from past the held ones
+-- backwards, from an entry of the resource or from past the held ones
 pub record AskPreceding (key : ℕ) (resources : List ℕ) (held at : ℕ) : Type 0 where
   pub along : AskAlong key held
   pub fits : at ≤ room

@@ -1,11 +1,11 @@
 -- Booked spans as three columns of numbers: resource, start and finish.
 use mathlib.Core.Path.{_≡_}
-use mathlib.Core.List.{List, [], _∷_, _++_}
+use mathlib.Core.List.{List, [], _++_}
 use Prim.Native.Nat.{ℕ, zero, suc, _+_, _*_, _^_, _≤_, _<_}
 use lib.Dec.{eqb}
 use lib.ListN.{length, getD}
 use Rattle.rules.specs.Sequences.{cons-if}
-use Rattle.rules.specs.Words.{Span, Resource, machine, link, most-machines, resource, row-limit}
+use Rattle.rules.specs.Words.{Span, Resource, machine, link, most-machines, most-tasks, most-messages, resource, row-limit}
 use Rattle.rules.specs.Placing.{no-row}
 use Rattle.rules.specs.declared.Row.{Row}
 
@@ -28,9 +28,9 @@ spans-of k resources starts finishes (suc i) =
 abbrev pub tick-bound : ℕ
 tick-bound = 2 ^ 40
 
--- the columns' length
+-- the columns' length: held rows, a job's own, and those of one trial
 abbrev pub room : ℕ
-room = 336
+room = row-limit + (most-tasks + most-messages) + most-messages
 
 -- the first n spans hold a tick, and end below the bound
 pub record Lasting (starts finishes : List ℕ) (n : ℕ) : Type 0 where
@@ -58,7 +58,7 @@ pub record Mirrors (rows : List Row) (resources starts finishes : List ℕ) (n :
   pub starts-are : (i : ℕ) → i < n → getD starts i 0 ≡ getD rows i no-row .start
   pub finishes-are : (i : ℕ) → i < n → getD finishes i 0 ≡ getD rows i no-row .finish
 
--- a column of a figure of the rows in an array, up to the count
-pub record ColumnOf (figure : Row → ℕ) (rows : List Row) (count : ℕ) (column : List ℕ) : Type 0 where
+-- entry i of the column is that figure, or test, of row i, up to the count
+pub record ColumnOf {A : Type 0} (d : A) (of : Row → A) (rows : List Row) (count : ℕ) (column : List A) : Type 0 where
   pub long : length column ≡ row-limit
-  pub is : (i : ℕ) → i < count → getD column i 0 ≡ figure (getD rows i no-row)
+  pub is : (i : ℕ) → i < count → getD column i d ≡ of (getD rows i no-row)

@@ -1,10 +1,9 @@
 -- The search by passes.
-use mathlib.Core.Bool.{cond, _&&_}
+use mathlib.Core.Bool.{cond}
 use mathlib.Core.List.{List, [], _∷_}
 use mathlib.Core.Path.{_≡_}
 use Prim.Native.Nat.{ℕ, _+_, _-_, _≤_, _<_}
 use lib.ListN.{getD}
-use lib.Dec.{ltb, eqb}
 use Rattle.rules.specs.Words.{Span, meets}
 use Rattle.placement.specs.Columns.{room}
 
@@ -35,9 +34,9 @@ pub record NextOf (key : ℕ) (resources : List ℕ) (count from r : ℕ) : Type
   pub none : (j : ℕ) → from ≤ j → j < r → getD resources j 0 ≡ key → ⊥
   pub here : r < count → getD resources r 0 ≡ key
 
--- none below a place is of the resource, down to just past one that is or the floor
-pub record AfterLastOf (key : ℕ) (resources : List ℕ) (floor below r : ℕ) : Type 0 where
-  pub down : floor ≤ r
+-- none below a place is of the resource, down to just past one that is or to a place further down
+pub record AfterLastOf (key : ℕ) (resources : List ℕ) (from below r : ℕ) : Type 0 where
+  pub down : from ≤ r
   pub within : r ≤ below
   pub none : (j : ℕ) → r ≤ j → j < below → getD resources j 0 ≡ key → ⊥
-  pub here : floor < r → getD resources (r - 1) 0 ≡ key
+  pub here : from < r → getD resources (r - 1) 0 ≡ key

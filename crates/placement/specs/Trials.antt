@@ -11,7 +11,7 @@ use Rattle.rules.specs.declared.Job.{Job}
 use Rattle.rules.specs.declared.Setup.{Setup}
 use Rattle.rules.specs.Sequences.{any-of}
 use Rattle.rules.specs.Words.{link, horizon, largest-time, largest-volume, most-messages, most-machines, messages-of, run-time}
-use Rattle.rules.specs.Placing.{least-free, spans-on, transfer, message-booking, books-message, placed, into, message-trials, all-arrived, costs, release as rules-release, Trial, trial-rows, try, choice}
+use Rattle.rules.specs.Placing.{least-free, transfer, message-booking, books-message, placed, into, message-trials, all-arrived, costs, release as rules-release, Trial, trial-rows, try, choice}
 use Rattle.rules.specs.Laws.{IsTask}
 use Rattle.placement.specs.declared.Attempt.{Attempt}
 use Rattle.placement.specs.declared.choice.Kept.{Kept}

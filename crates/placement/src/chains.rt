@@ -1,4 +1,4 @@
-// Chains through the columns of the held rows: a search goes along the entries of its resource, and looks at no other.
+// Chains through the columns of the held rows: of these a search looks at the entries of its resource alone.
 use crate::KEYS;
 use crate::NODES;
 use crate::SPANS;

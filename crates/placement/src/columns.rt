@@ -64,7 +64,7 @@ pub fn fill<'a>(
     finishes: &'a mut [u64; SPANS],
 )
     requires { ⌜ AskFill rows count (now jobs) (now resources) (now starts) (now finishes) ⌝ }
-    ensures { λ _. ⌜ ColumnOf (λ row. row .job) rows count (now (jobs .exit)) ⌝ }
+    ensures { λ _. ⌜ ColumnOf 0 (λ row. row .job) rows count (now (jobs .exit)) ⌝ }
     ensures { λ _. ⌜ Widths (now (resources .exit)) (now (starts .exit)) (now (finishes .exit)) ⌝ }
     ensures { λ _. ⌜ Mirrors (take count rows) (now (resources .exit)) (now (starts .exit)) (now (finishes .exit)) count ⌝ }
 {

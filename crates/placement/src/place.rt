@@ -90,7 +90,7 @@ fn place_tasks<'a>(
         finishes: [0; TASKS],
     };
     let mut own = without_rows(0);
-    // 01's floor: the clock, the scheduling time, and the dispatch times of the tasks placed so far; then of the one whose turn it is.
+    // 01's floor. Between turns: the clock, the scheduling time, and the dispatch times of the tasks placed so far; each turn adds that of its own task.
     let mut release = clock + job.scheduling;
     let mut turn: u64 = 0;
     while turn < job.taskcount {

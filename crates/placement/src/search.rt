@@ -38,13 +38,13 @@ fn next_of(resources: &[u64; SPANS], count: usize, key: u64, from: usize) -> usi
     i
 }
 
-// The place after the last entry of the resource below a place, or the floor.
-fn after_last_of(resources: &[u64; SPANS], key: u64, floor: usize, below: usize) -> usize
-    requires { ⌜ (floor ≤ below) × (below ≤ room) ⌝ }
-    ensures { λ r. ⌜ AfterLastOf key (now (resources .entry)) floor below r ⌝ }
+// The place after the last entry of the resource from a place on and below another, or the first place.
+fn after_last_of(resources: &[u64; SPANS], key: u64, from: usize, below: usize) -> usize
+    requires { ⌜ (from ≤ below) × (below ≤ room) ⌝ }
+    ensures { λ r. ⌜ AfterLastOf key (now (resources .entry)) from below r ⌝ }
 {
     let mut left = below;
-    while floor < left {
+    while from < left {
         if resources[left - 1] == key {
             return left;
         }
@@ -53,7 +53,7 @@ fn after_last_of(resources: &[u64; SPANS], key: u64, floor: usize, below: usize)
     left
 }
 
-// Where a chain goes on: among the held entries, or past its end at the first of the job's own, which are looked through.
+// Where a chain goes on: at the held entry that it names, or past its end at the first of the job's own spans of the resource, which are looked through.
 fn chained_or_own(
     resources: &[u64; SPANS],
     held: usize,
@@ -70,7 +70,7 @@ fn chained_or_own(
     next_of(resources, count, key, held)
 }
 
-// The entry of the resource that follows one.
+// The entry of the resource that follows one, or the count.
 fn following<'a>(
     resources: &'a [u64; SPANS],
     nexts: &'a [usize; NODES],
@@ -88,7 +88,7 @@ fn following<'a>(
     chained_or_own(resources, held, count, key, nexts[KEYS + at])
 }
 
-// The place after the entry of the resource that precedes one, or 0.
+// The place after the entry of the resource that precedes a place, or 0.
 fn preceding<'a>(
     resources: &'a [u64; SPANS],
     backs: &'a [usize; NODES],

@@ -16,7 +16,6 @@ use rules::Message;
 use rules::Row;
 use rules::Setup;
 ghost use mathlib.Core.Path.{_≡_};
-ghost use mathlib.Core.List.{List};
 ghost use Prim.Native.Nat.{max};
 ghost use Rattle.rules.specs.declared.Row.{Row};
 ghost use Rattle.rules.specs.Words.{run-time};
@@ -173,7 +172,7 @@ fn try_messages<'a>(
     }
 }
 
-// A trial of a machine that can run the task, for the run time there.
+// A trial of a machine that can run the task; `run` is its run time there.
 pub fn attempt<'a>(
     s: Setup,
     job: Job,

@@ -1,23 +1,17 @@
 -- Admitting a job: its rows go into the slots after the held ones, one after the other.
 use mathlib.Core.Path.{_≡_, refl, sym, ap, ap₂, _∙_, subst}
-use mathlib.Core.List.{List, [], _∷_, _++_, append-nil, append-assoc, List·Memᴰ}
-use Prim.Native.Nat.{ℕ, suc, _+_, _*_, _-_, _^_, _≤_, _<_}
+use mathlib.Core.List.{List, [], _∷_, _++_, append-nil, append-assoc}
+use Prim.Native.Nat.{ℕ, suc, _+_, _-_, _^_, _≤_, _<_}
 use native.Mathlib.Omega.{arith}
-use native.Mathlib.Nat.{add-suc, add-zero}
-use lib.ListN.{length, getD, take, set, length-set, length-take}
-use lib.Seq.{take-suc, take-suc-set, getD-set-other, length-take-le}
+use native.Mathlib.Nat.{add-suc}
+use lib.ListN.{length, getD, take, set, length-set}
+use lib.Seq.{take-suc, take-suc-set, getD-set-other}
 use Rattle.rules.specs.declared.Row.{Row}
-use Rattle.rules.specs.declared.Setup.{Setup}
-use Rattle.rules.specs.declared.Job.{Job}
-use Rattle.rules.specs.Words.{State, row-limit}
+use Rattle.rules.specs.Words.{row-limit}
 use Rattle.rules.specs.Placing.{no-row, costs}
-use Rattle.rules.specs.Withdrawing.{admit}
-use Rattle.rules.specs.Bounds.{Bounded, RowInRange, largest-cost}
-use Rattle.placement.specs.Placements.{most-own}
 use Rattle.placement.specs.declared.place.Placement.{Placement}
 use Rattle.placement.proofs.Placed.{costs-at-most}
 use Rattle.reservation.specs.declared.Register.{Register}
-use Rattle.reservation.specs.Registers.{state-of, register-of, Valid}
 use Rattle.reservation.specs.Calls.{AskAdmit, Admits}
 
 -- after i rows

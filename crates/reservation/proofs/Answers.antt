@@ -1,21 +1,20 @@
 -- The answer to a submission, by the first test that refuses, and what the register is left as.
-use mathlib.Core.Path.{_≡_, refl, sym, ap, ap₂, _∙_}
-use mathlib.Core.Bool.{Bool, true, false, cond}
+use mathlib.Core.Path.{_≡_, refl, ap, _∙_}
+use mathlib.Core.Bool.{true, false}
 use mathlib.Core.List.{List, [], _∷_}
 use mathlib.Core.Option.{Option, none, some}
 use Prim.Native.Nat.{ℕ, _+_, _<_, _≤_}
-use native.Mathlib.Omega.{arith}
 use lib.Dec.{ltb}
 use lib.ListN.{length}
-use borrow.Author.Tests.{lt-ltb, eq-eqb, ne-eqb}
+use borrow.Author.Tests.{lt-ltb, eq-eqb}
 use Rattle.rules.specs.declared.Row.{Row}
 use Rattle.rules.specs.declared.Job.{Job}
 use Rattle.rules.specs.declared.Setup.{Setup}
 use Rattle.rules.specs.declared.Answer.{Answer}
-use Rattle.rules.specs.Words.{State, View, view, row-limit, largest-number}
-use Rattle.rules.specs.Placing.{costs, Placing, booked, late}
+use Rattle.rules.specs.Words.{State, View, view, row-limit}
+use Rattle.rules.specs.Placing.{costs, booked, late}
 use Rattle.rules.specs.Withdrawing.{admit}
-use Rattle.rules.specs.Refusals.{Test, refuse-if, outside, refusal, judged, miscounted, out-of-range, bad-messages, first-infeasible, missed, found, placing, submit-tests, submit-answer, Call, submits, settle, step, accepted}
+use Rattle.rules.specs.Refusals.{Test, refuse-if, refusal, judged, first-infeasible, missed, found, placing, submit-tests, submit-answer, submits, settle, step}
 use Rattle.rules.specs.Demands.{InRange, NoRefusal, end, passes}
 use Rattle.rules.proofs.Demand1.{submit-answered}
 use Rattle.rules.proofs.Admitted.{Admitted, admits}
@@ -94,10 +93,6 @@ module _ (s : Setup) (v : View) (j : Job) (range : InRange s j) (free : v .held 
           ∙ ap (λ p. record { number = 0; task = 0; cost = costs (found p); rows = length (found p) }) is-placed
 
 -- What is left.
-
-pub refused-left : (s : Setup) (st : State) (j : Job) {n t : ℕ} → (n ≡ 0 → ⊥) → submit-answer s (view st) j ≡ refusal n t → step s st (submits j) .left ≡ st
-unfolding step settle
-refused-left s st j {n} ne e = rw e (rw (ne-eqb n 0 ne) refl)
 
 pub admitted-left :
     (s : Setup) (st : State) (j : Job) (rows : List Row) → submit-answer s (view st) j .number ≡ 0 → placing s (view st) j ≡ booked rows →

@@ -4,15 +4,13 @@ use mathlib.Core.List.{List, [], _∷_}
 use Rattle.rules.specs.declared.Answer.{Answer}
 use Rattle.rules.specs.declared.Setup.{Setup}
 use Rattle.rules.specs.Words.{State, fresh, default-setup}
-use Rattle.rules.specs.Refusals.{Call, step, answers, after, accepted}
-use Rattle.rules.specs.Sequences.{keep}
+use Rattle.rules.specs.Refusals.{Call, step, answers, after}
 use Rattle.rules.specs.Bounds.{Sound, Bounded}
 use Rattle.rules.specs.Demands.{register-left, struck-calls}
-use Rattle.rules.proofs.Bounds.{bounded-fresh, bounded-step, bounded-after}
+use Rattle.rules.proofs.Bounds.{bounded-fresh, bounded-step}
 use Rattle.rules.proofs.DefaultTables.{default-sound}
 use Rattle.rules.proofs.Demand3.{demand-3}
 use Rattle.reservation.specs.declared.Register.{Register}
-use Rattle.reservation.specs.declared.Reply.{Reply}
 use Rattle.reservation.specs.Registers.{state-of, register-of}
 use Rattle.reservation.specs.Calls.{Steps}
 use Rattle.reservation.specs.Chains.{new-register, Chain, done, call, Demand3-of-code}

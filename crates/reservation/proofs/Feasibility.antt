@@ -16,15 +16,15 @@ use Rattle.rules.specs.declared.Task.{Task}
 use Rattle.rules.specs.declared.Job.{Job}
 use Rattle.rules.specs.declared.Setup.{Setup}
 use Rattle.rules.specs.Sequences.{any-of, keep, foremost}
-use Rattle.rules.specs.Words.{most-tasks, most-messages, largest-time, horizon, machines, task-numbers, no-task, task-of, run-time}
+use Rattle.rules.specs.Words.{most-tasks, largest-time, horizon, machines, task-numbers, no-task, task-of, run-time}
 use Rattle.rules.specs.Placing.{no-row}
-use Rattle.rules.specs.Refusals.{outside, miscounted, task-out-of-range, out-of-range, infeasible, first-infeasible}
+use Rattle.rules.specs.Refusals.{outside, task-out-of-range, out-of-range, infeasible, first-infeasible}
 use Rattle.rules.specs.Laws.{IsTask}
 use Rattle.rules.proofs.Sequences.{by-test, clash, or-false, any-mem, any-none, any-append, keep-mem, mem-keep, getD-mem, mem-map, map-mem, mem-numbers, numbers-mem}
 use Rattle.rules.proofs.Choice.{precedes-false, foremost-mem, foremost-first, foremost-empty, task-mem, mem-task}
-use Rattle.rules.proofs.Order.{in-between}
 use Rattle.placement.proofs.Tasks.{task-at}
 use Rattle.reservation.specs.Tests.{AskFeasible, AskTimes, TestOf, named}
+use Rattle.reservation.proofs.Ranged.{counts-in-range, test-at}
 
 -- Rows, one after the other.
 
@@ -63,9 +63,7 @@ module _ {p : Row → Bool} {rows : List Row} {count : ℕ} where
 
 -- the job's tasks have room, since test 2 passes it
 pub count-at-most : {s : Setup} {clock : ℕ} {j : Job} → AskFeasible s clock j → j .taskcount ≤ most-tasks
-unfolding miscounted
-count-at-most {j = j} ask =
-    in-between 1 most-tasks (j .taskcount) (or-false (outside 1 most-tasks (j .taskcount)) (ltb most-messages (j .messagecount)) (ask .figures .counts) .0) .1
+count-at-most ask = counts-in-range (ask .figures .counts) .tasks-at-most
 
 -- none of the first m machines, started at the clock, ends in time
 pub record AllLate (machines clock : ℕ) (its : Task) (m : ℕ) : Type 0 where
@@ -203,11 +201,8 @@ module _ {s : Setup} {clock : ℕ} {j : Job} {t : ℕ} (sofar : NoneInfeasible s
       go (some u) f = let later = comes-later (foremost-mem _ _ f) in absurd (omega arith)
 
   module _ (more : t < j .taskcount) {r : Bool} (known : TestOf (infeasible s clock) (getD (j .tasks) t no-task) r) where
-    of-next : infeasible s clock j (t + 1) ≡ r
-    of-next = sym (known j (t + 1) (task-at j t))
-
     pub feasible-more : r ≡ false → NoneInfeasible s clock j (t + 1)
-    feasible-more e = record { within = omega arith; feasible = below-more _ t (sofar .feasible) (of-next ∙ e) }
+    feasible-more e = record { within = omega arith; feasible = below-more _ t (sofar .feasible) (test-at t known ∙ e) }
 
     -- the first found is the lowest, since those passed are feasible
     pub first-found : r ≡ true → named (t + 1) ≡ first-infeasible s clock j
@@ -218,7 +213,7 @@ module _ {s : Setup} {clock : ℕ} {j : Job} {t : ℕ} (sofar : NoneInfeasible s
         named-more = rw add-one refl
 
         own : List·Memᴰ (t + 1) (infeasible-tasks s clock j)
-        own = keep-mem (infeasible s clock j) (numbers-mem 1 (j .taskcount) (t + 1) (omega arith) (omega arith)) (of-next ∙ e)
+        own = keep-mem (infeasible s clock j) (numbers-mem 1 (j .taskcount) (t + 1) (omega arith) (omega arith)) (test-at t known ∙ e)
 
         go : (o : Option ℕ) → foremost (λ u. u ∷ []) (infeasible-tasks s clock j) ≡ o → some (t + 1) ≡ o
         go none f = absurd (foremost-empty _ f own)

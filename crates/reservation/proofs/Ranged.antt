@@ -111,6 +111,10 @@ module _ (s : Setup) (its : Task) where
 
 -- A job's figures: task by task.
 
+-- what a test says of a task is what it says of that task in its job
+pub test-at : {test : Job → ℕ → Bool} {j : Job} (t : ℕ) {r : Bool} → TestOf test (getD (j .tasks) t no-task) r → test j (t + 1) ≡ r
+test-at {j = j} t known = sym (known j (t + 1) (task-at j t))
+
 module _ {s : Setup} {j : Job} (ask : AskFigures s j) where
   pub scheduling-outside : largest-time < j .scheduling → true ≡ out-of-range s j
   unfolding out-of-range
@@ -122,15 +126,12 @@ module _ {s : Setup} {j : Job} (ask : AskFigures s j) where
     tasks-inside all h = rw (le-ltb largest-time (j .scheduling) h, none-of-all sofar all) refl
 
     module _ (more : t < j .taskcount) {r : Bool} (known : TestOf (task-out-of-range s) (getD (j .tasks) t no-task) r) where
-      of-next : task-out-of-range s j (t + 1) ≡ r
-      of-next = sym (known j (t + 1) (task-at j t))
-
       pub task-inside : r ≡ false → NoneOf (task-out-of-range s j) (j .taskcount) (t + 1)
-      task-inside e = none-more sofar more (of-next ∙ e)
+      task-inside e = none-more sofar more (test-at t known ∙ e)
 
       pub task-outside : r ≡ true → true ≡ out-of-range s j
       unfolding out-of-range
-      task-outside e = sym (or-right (ltb largest-time (j .scheduling)) _ (some-found sofar more (of-next ∙ e)))
+      task-outside e = sym (or-right (ltb largest-time (j .scheduling)) _ (some-found sofar more (test-at t known ∙ e)))
 
 -- Messages that ascend: message by message.
 

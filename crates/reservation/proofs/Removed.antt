@@ -5,24 +5,19 @@ use mathlib.Core.List.{List, [], _∷_, _++_, append-nil}
 use Prim.Native.Nat.{ℕ, suc, _+_, _-_, _≤_, _<_}
 use native.Mathlib.Omega.{arith}
 use lib.ListN.{length, getD, take, drop, set, replicate, length-set, length-replicate, getD-replicate}
-use lib.Seq.{take-suc, take-suc-set, drop-cons, drop-length, getD-take, getD-set-same, getD-set-other, length-take-le}
+use lib.Seq.{take-suc, take-suc-set, drop-cons, drop-length, getD-take, getD-set-other, length-take-le}
 use Rattle.rules.specs.declared.Row.{Row}
 use Rattle.rules.specs.Sequences.{keep, cons-if}
 use Rattle.rules.specs.Words.{of-job, row-limit}
 use Rattle.rules.specs.Placing.{no-row, costs}
 use Rattle.rules.specs.Withdrawing.{remove, ended}
-use lib.Dec.{eqb}
-use borrow.Author.Tests.{eqb-true, eqb-false}
-use Rattle.rules.proofs.Sequences.{by-test, keep-append, sum-append, sum-split}
+use Rattle.rules.proofs.Sequences.{keep-append, sum-append, sum-split}
 use Rattle.reservation.specs.declared.Register.{Register}
 use Rattle.reservation.specs.Registers.{Valid}
-use Rattle.placement.proofs.Made.{Made, made-none, made-more}
-use Rattle.reservation.specs.Calls.{WithBoth, EndedIs, MaskOf, RowsEnded, Removes}
+use Rattle.placement.specs.Columns.{ColumnOf}
+use Rattle.placement.proofs.Made.{made-none, made-more, made-fewer}
+use Rattle.reservation.specs.Calls.{WithBoth, EndedIs, RowsEnded, Removes}
 use Rattle.reservation.proofs.Values.{blank-rest}
-
-module _ {of : Row → Bool} {rows : List Row} {mask : List Bool} {count i : ℕ} where
-  pub made-mask : Made false of rows mask i → count ≤ i → MaskOf of rows count mask
-  made-mask m all = record { long = m .long; is = λ k h. m .is k (omega arith) }
 
 -- The rows of jobs that have ended: the first i entries are made, and the answer for the job asked last is at hand.
 pub record Ending (jobs finishes : List ℕ) (count tick : ℕ) (mask : List Bool) (asked : ℕ) (gone : Bool) (i : ℕ) : Type 0 where
@@ -33,7 +28,7 @@ pub record Ending (jobs finishes : List ℕ) (count tick : ℕ) (mask : List Boo
       jobs
       finishes
       count
-      (λ rows. Made false (λ row. ended tick (keep (of-job (row .job)) (take count rows))) rows mask i)
+      (λ rows. ColumnOf false (λ row. ended tick (keep (of-job (row .job)) (take count rows))) rows i mask)
 
 -- an answer serves a row if it is the answer for the row's job
 abbrev pub Serves : (jobs finishes : List ℕ) (count tick i asked : ℕ) → Bool → Type 0
@@ -59,7 +54,7 @@ module _ {jobs finishes : List ℕ} {count tick asked : ℕ} {gone : Bool} where
     }
 
     pub ending-all : count ≤ i → RowsEnded jobs finishes count tick mask
-    ending-all all = λ rows a l b. made-mask (g .made rows a l b) all
+    ending-all all = λ rows a l b. made-fewer (g .made rows a l b) all
 
 -- The rows that stay.
 
@@ -69,7 +64,7 @@ pub record Removing (r : Register) (mask : List Bool) (rows : List Row) (kept to
   pub long : length rows ≡ row-limit
   pub blank : (k : ℕ) → kept ≤ k → k < row-limit → getD rows k no-row ≡ no-row
   pub total-is : total ≡ costs (take kept rows) + costs (drop i (take (r .count) (r .rows)))
-  pub are : (leaves : Row → Bool) → MaskOf leaves (r .rows) (r .count) mask → take kept rows ≡ keep (λ row. not (leaves row)) (take i (r .rows))
+  pub are : (leaves : Row → Bool) → ColumnOf false leaves (r .rows) (r .count) mask → take kept rows ≡ keep (λ row. not (leaves row)) (take i (r .rows))
 
 module _ {r : Register} (valid : Valid r) {mask : List Bool} where
   pub removing-none : Removing r mask (replicate row-limit no-row) 0 (r .total) 0

@@ -67,10 +67,10 @@ module _ (figure : Row → ℕ) (passes : ℕ → Bool) (jobs column : List ℕ)
   found-none = record { within = omega arith; none-found = λ rows a l b. refl }
 
   module _ {i : ℕ} (few : count ≤ row-limit) (more : i < count) where
-    own-job : {rows : List Row} {t : Bool} → ColumnOf (λ row. row .job) rows count jobs → eqb (getD jobs i 0) job ≡ t → of-job job (getD rows i no-row) ≡ t
+    own-job : {rows : List Row} {t : Bool} → ColumnOf 0 (λ row. row .job) rows count jobs → eqb (getD jobs i 0) job ≡ t → of-job job (getD rows i no-row) ≡ t
     own-job a e = ap (λ n. eqb n job) (sym (a .is i more)) ∙ e
 
-    own-figure : {rows : List Row} {t : Bool} → ColumnOf figure rows count column → passes (getD column i 0) ≡ t → passes (figure (getD rows i no-row)) ≡ t
+    own-figure : {rows : List Row} {t : Bool} → ColumnOf 0 figure rows count column → passes (getD column i 0) ≡ t → passes (figure (getD rows i no-row)) ≡ t
     own-figure b e = ap passes (sym (b .is i more)) ∙ e
 
     pub found-one : getD jobs i 0 ≡ job → passes (getD column i 0) ≡ true → FoundIs true

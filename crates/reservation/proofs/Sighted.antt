@@ -62,9 +62,11 @@ first-kept {p} {rows} {count} {i} sofar more passes =
     before = keep-none p (take i rows) (λ row mem. any-none p (sofar .none-passes) mem)
 
 module _ (r : Register) (m tick : ℕ) where
-  -- what the rules see has 01's number
+  -- what the rules see has 01's number and row
   numbered : {seen : Seen} → seen ≡ look (r .setup) (view (state-of r)) m tick → Looks r m tick seen
-  numbered is = record { seen-is = is; refused = rw is (demand-1-look (r .setup) (view (state-of r)) m tick .refused) }
+  numbered is =
+      let rules = demand-1-look (r .setup) (view (state-of r)) m tick in
+      record { seen-is = is; refused = rw is (rules .refused); sees = rw is (rules .sees) }
 
   pub sees-no-machine : ((1 ≤ m) × (m ≤ r .setup .table .machines) → ⊥) → Looks r m tick NoMachine
   unfolding look

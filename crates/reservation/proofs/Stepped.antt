@@ -2,36 +2,35 @@
 use mathlib.Core.Path.{_≡_, refl, sym, ap, ap₂, _∙_, subst}
 use mathlib.Core.Bool.{Bool, true, false, not}
 use mathlib.Core.List.{List, _++_, append-nil, Memᴰ·append-right}
-use mathlib.Core.Option.{Option, none, some}
-use Prim.Native.Nat.{ℕ, zero, suc, _+_, _-_, _≤_, _<_}
+use mathlib.Core.Option.{none}
+use Prim.Native.Nat.{ℕ, _+_, _-_, _≤_, _<_}
 use native.Mathlib.Omega.{arith}
 use lib.ListN.{length, take, replicate, length-append, length-replicate, getD-replicate}
 use lib.Seq.{length-take-le}
 use lib.Dec.{ltb, leb, eqb}
-use borrow.Author.Tests.{eqb-true, eqb-false, ltb-true, ltb-false, eq-eqb, ne-eqb, lt-ltb, le-ltb}
+use borrow.Author.Tests.{eqb-true, eqb-false, ltb-true, ltb-false, ne-eqb, lt-ltb, le-ltb}
 use Rattle.rules.specs.declared.Row.{Row}
 use Rattle.rules.specs.declared.Job.{Job}
 use Rattle.rules.specs.declared.Answer.{Answer}
 use Rattle.rules.specs.declared.Setup.{Setup}
 use Rattle.rules.specs.Sequences.{any-of, keep}
 use Rattle.rules.specs.Words.{State, View, view, of-job, row-limit, largest-number, horizon}
-use Rattle.rules.specs.Placing.{no-row, costs, booked, late}
+use Rattle.rules.specs.Placing.{no-row, costs, booked}
 use Rattle.rules.specs.Withdrawing.{admit, withdraw, advance, remove, ended}
-use Rattle.rules.specs.Refusals.{refuse-if, outside, refusal, accepted, miscounted, out-of-range, bad-messages, first-infeasible, placing, found, submit-tests, submit-answer, withdraw-tests, withdraw-answer, clock-tests, clock-answer, Call, submits, withdraws, moves, settle, step}
-use Rattle.rules.specs.Demands.{InRange, passes, end}
+use Rattle.rules.specs.Refusals.{refuse-if, outside, refusal, accepted, miscounted, out-of-range, bad-messages, first-infeasible, placing, found, submit-tests, withdraw-tests, withdraw-answer, clock-tests, clock-answer, Call, submits, withdraws, moves, settle, step}
+use Rattle.rules.specs.Demands.{passes, end}
 use Rattle.rules.specs.Bounds.{Bounded}
-use Rattle.rules.proofs.Sequences.{keep-all, keep-none}
+use Rattle.rules.proofs.Sequences.{by-test, keep-all, keep-none}
 use Rattle.rules.proofs.Struck.{step-still}
 use Rattle.rules.proofs.Bounds.{bounded-step}
-use Rattle.rules.proofs.Sequences.{by-test}
+use Rattle.placement.specs.Columns.{ColumnOf}
 use Rattle.placement.specs.Placements.{most-own, none-placed, placing-of, AskPlace, PlacementIs}
 use Rattle.placement.specs.declared.place.Placement.{Placement}
-use Rattle.placement.proofs.Placed.{costs-at-most, next-some, next-none}
+use Rattle.placement.proofs.Placed.{costs-at-most, placing-late, next-some, next-none}
 use Rattle.reservation.specs.declared.Register.{Register}
-use Rattle.reservation.specs.declared.Reply.{Reply}
 use Rattle.reservation.specs.Registers.{state-of, register-of, Valid}
 use Rattle.reservation.specs.declared.submission.Verdict.{Verdict}
-use Rattle.reservation.specs.Calls.{Steps, EarlyIs, AskAdmit, Admits, refuses, Settles, Judges, MaskOf, RemovalIs, no-removal}
+use Rattle.reservation.specs.Calls.{Steps, EarlyIs, AskAdmit, Admits, refuses, Settles, Judges, RemovalIs, no-removal}
 use Rattle.reservation.specs.Tests.{named}
 use Rattle.reservation.proofs.Values.{register-same, register-valid, blank-rest}
 use Rattle.reservation.proofs.Answers.{First, here, later, first-answers, judged-first, judged-none, answer-6, answer-7, answer-8, answer-0, admitted-left}
@@ -91,6 +90,27 @@ module _ {s : Setup} {j : Job} where
         pub early-0 : bad-messages j ≡ false → EarlyIs s j 0
         early-0 d = record { refused = λ ne. absurd (ne refl); in-range = λ _. record { number = a; counts = b; figures = c; messages = d } }
 
+-- Rows to admit.
+
+-- the register left is the one that stands for the rows held and those of the job
+admits-is :
+    {r : Register} {found : Placement} {left : Register} → AskAdmit r found → Admits r found left →
+    left
+    ≡ register-of (r .setup) (record { clock = r .clock; rows = take (r .count) (r .rows) ++ take (found .count) (found .rows); total = r .total + found .cost })
+admits-is {r} {found} {left} ask ad =
+    let kept = take (r .count) (r .rows) in
+    let rows = take (found .count) (found .rows) in
+    let fits = ask .fits in
+    let count = ad .count-is in
+    let count-is : left .count ≡ length (kept ++ rows)
+    = let held = length-take-le (r .count) (r .rows) (let l = ask .valid .long in omega arith) in
+    let own = length-take-le (found .count) (found .rows) (let l = ask .found-long in let few = ask .found-at-most in omega arith) in
+    let both = length-append kept rows in
+    omega arith in
+    let rows-are : left .rows ≡ (kept ++ rows) ++ replicate (row-limit - length (kept ++ rows)) no-row
+    = blank-rest (left .rows) (left .count) (ad .long) (omega arith) (ad .blank) ∙ ap₂ (λ l k. l ++ replicate (row-limit - k) no-row) (ad .rows-are) count-is in
+    λ i. record { setup = ad .setup-is i; clock = ad .clock-is i; count = count-is i; rows = rows-are i; total = ad .total-is i }
+
 -- No rows to admit.
 
 module _ {r : Register} (valid : Valid r) where
@@ -106,16 +126,12 @@ module _ {r : Register} (valid : Valid r) where
 
   pub admits-none : {left : Register} → Admits r (none-placed 0) left → left ≡ r
   unfolding none-placed
-  admits-none {left} ad =
-      let count-is : left .count ≡ r .count = let c = ad .count-is in omega arith in
-      let total-is : left .total ≡ r .total = let t = ad .total-is in omega arith in
-      let few = valid .count-at-most in
-      let kept : take (left .count) (left .rows) ≡ take (r .count) (r .rows) = ad .rows-are ∙ append-nil (take (r .count) (r .rows)) in
-      let rows-are : left .rows ≡ r .rows
-      = blank-rest (left .rows) (left .count) (ad .long) (omega arith) (ad .blank)
-      ∙ ap₂ (λ l k. l ++ replicate (row-limit - k) no-row) kept count-is
-      ∙ sym (blank-rest (r .rows) (r .count) (valid .long) few (valid .blank)) in
-      λ i. record { setup = ad .setup-is i; clock = ad .clock-is i; count = count-is i; rows = rows-are i; total = total-is i }
+  admits-none ad =
+      let rows-same = append-nil (take (r .count) (r .rows)) in
+      let total-same : r .total + 0 ≡ r .total = omega arith in
+      admits-is ask-none ad
+      ∙ ap (register-of (r .setup)) (λ i. record { clock = r .clock; rows = rows-same i; total = total-same i })
+      ∙ register-same r valid
 
   -- a refusal admits no rows
   pub judges-refused :
@@ -128,10 +144,6 @@ module _ {r : Register} (valid : Valid r) where
       (record { ask = ask-none; steps = λ left ad. subst (λ x. Steps r (submits j) (record { answer = refusal n t; register = x })) (sym (admits-none ad)) st })
 
 -- Refusals 6 to 8, and admission.
-
-placed-late : (rows : List Row) (t : ℕ) → (t ≡ 0 → ⊥) → placing-of t rows ≡ late t
-placed-late rows zero ne = absurd (ne refl)
-placed-late rows (suc t) ne = refl
 
 module _ {r : Register} (valid : Valid r) {j : Job} {n : ℕ} (early : EarlyIs (r .setup) j n) where
   pub submit-early : (n ≡ 0 → ⊥) → Steps r (submits j) (record { answer = refusal n 0; register = r })
@@ -193,7 +205,7 @@ module _ {r : Register} (valid : Valid r) {j : Job} {n : ℕ} (early : EarlyIs (
           (early .in-range z)
           free
           no-infeasible
-          (sym (is .is) ∙ placed-late (take (found .count) (found .rows)) (found .late) ne))
+          (sym (is .is) ∙ placing-late (take (found .count) (found .rows)) (found .late) (omega (arith, ne))))
           (λ x. omega arith)
 
       module _ (in-time : found .late ≡ 0) where
@@ -257,17 +269,9 @@ module _ {r : Register} (valid : Valid r) {j : Job} {n : ℕ} (early : EarlyIs (
           pub submit-0 : {left : Register} → Admits r found left → Steps r (submits j) (record { answer = admission; register = left })
           unfolding admit
           submit-0 {left} ad =
-              let kept = take (r .count) (r .rows) in
-              let count-is : left .count ≡ length (kept ++ rows)
-              = let c = ad .count-is in let l = length-append kept rows in let a = held-length in let b = found-length in omega arith in
-              let count-fits : left .count ≤ row-limit = let c = ad .count-is in omega arith in
-              let rows-are : left .rows ≡ (kept ++ rows) ++ replicate (row-limit - length (kept ++ rows)) no-row
-              = blank-rest (left .rows) (left .count) (ad .long) count-fits (ad .blank)
-              ∙ ap₂ (λ l k. l ++ replicate (row-limit - k) no-row) (ad .rows-are) count-is in
-              let total-is : left .total ≡ r .total + costs rows = ad .total-is ∙ ap (λ x. r .total + x) (is .cost-is) in
-              let whole : left ≡ register-of s (admit (state-of r) rows)
-              = λ i. record { setup = ad .setup-is i; clock = ad .clock-is i; count = count-is i; rows = rows-are i; total = total-is i } in
-              accepted-steps valid (submits j) admission answered left (whole ∙ ap (register-of s) (sym left-admits))
+              let admitted : record { clock = r .clock; rows = take (r .count) (r .rows) ++ rows; total = r .total + found .cost } ≡ admit (state-of r) rows
+              = λ i. record { clock = r .clock; rows = take (r .count) (r .rows) ++ rows; total = r .total + is .cost-is i } in
+              accepted-steps valid (submits j) admission answered left (admits-is ask-admit ad ∙ ap (register-of s) (admitted ∙ sym left-admits))
 
       -- late, too many rows, or admitted
       pub judges-settled : (w : Verdict) → Settles (r .count) found w → Judges r j w
@@ -338,7 +342,7 @@ module _ {r : Register} (valid : Valid r) where
   refusal-removal :
       (c : Call) (n : ℕ) → step (r .setup) (state-of r) c .answer ≡ refusal n 0 → (n ≡ 0 → ⊥) → RemovalIs r c (no-removal n (r .clock))
   refusal-removal c n is ne left removes =
-      let nobody : MaskOf (λ row. false) (r .rows) (r .count) (replicate row-limit false)
+      let nobody : ColumnOf false (λ row. false) (r .rows) (r .count) (replicate row-limit false)
       = record {
         long = length-replicate row-limit false;
         is = λ i h. getD-replicate row-limit i false false (let few = valid .count-at-most in omega arith);
@@ -356,7 +360,7 @@ module _ {r : Register} (valid : Valid r) where
 
       pub withdrawn :
           any-of (λ row. leb (row .start) (r .clock)) (view (state-of r) .rows-of n) ≡ false →
-          {mask : List Bool} → MaskOf (of-job n) (r .rows) (r .count) mask → RemovalIs r (withdraws n) (record { number = 0; clock = r .clock; leaves = mask })
+          {mask : List Bool} → ColumnOf false (of-job n) (r .rows) (r .count) mask → RemovalIs r (withdraws n) (record { number = 0; clock = r .clock; leaves = mask })
       unfolding withdraw
       withdrawn b m left removes =
           let is = withdraw-0 (r .setup) (state-of r) n a b in
@@ -378,7 +382,7 @@ module _ {r : Register} (valid : Valid r) where
 
       pub clock-moved :
           tick ≤ horizon →
-          {mask : List Bool} → MaskOf (λ row. ended tick (keep (of-job (row .job)) (take (r .count) (r .rows)))) (r .rows) (r .count) mask →
+          {mask : List Bool} → ColumnOf false (λ row. ended tick (keep (of-job (row .job)) (take (r .count) (r .rows)))) (r .rows) (r .count) mask →
           RemovalIs r (moves tick) (record { number = 0; clock = tick; leaves = mask })
       unfolding advance
       clock-moved k m left removes =

@@ -7,33 +7,18 @@ use Rattle.rules.specs.Words.{row-limit, horizon, largest-time}
 use Rattle.placement.specs.Placements.{most-own}
 
 -- a turn for each row held
-pub slot-below : (i n : ℕ) → i < n → n ≤ row-limit → i < 256
-slot-below i n h m = omega arith
-
 pub slot-kept : (k i n : ℕ) → k ≤ i → i < n → n ≤ row-limit → k < 256
 slot-kept k i n l h m = omega arith
 
-pub slot-fits : (i : ℕ) → i < 256 → Fits w64 (i * 72)
-slot-fits i h = omega arith
-
 pub slot-word-fits : (i : ℕ) → i < 256 → Fits w64 (i * 8)
 slot-word-fits i h = omega arith
-
-pub slot-turn-fits : (i : ℕ) → i < 256 → Fits w64 (i + 1)
-slot-turn-fits i h = omega arith
 
 -- the rows of a job, behind those held
 pub own-below : (i n : ℕ) → i < n → n ≤ most-own → i < 48
 own-below i n h m = omega arith
 
-pub own-fits : (i : ℕ) → i < 48 → Fits w64 (i * 72)
-own-fits i h = omega arith
-
 pub own-turn-fits : (i : ℕ) → i < 48 → Fits w64 (i + 1)
 own-turn-fits i h = omega arith
-
-pub behind-below : (a i n : ℕ) → i < n → a + n ≤ row-limit → a + i < 256
-behind-below a i n h m = omega arith
 
 pub behind-fits : (n : ℕ) → n < 256 → Fits w64 n
 behind-fits n h = omega arith
@@ -44,7 +29,3 @@ rows-fit n h = omega arith
 -- a run from the clock
 pub run-fits : (a b : ℕ) → a ≤ horizon → b ≤ largest-time → Fits w64 (a + b)
 run-fits a b h k = omega arith
-
--- one turn more
-pub turn-within : (i n : ℕ) → i < n → i + 1 ≤ n
-turn-within i n h = omega arith

@@ -1,8 +1,9 @@
 -- One definition for each call: how its arguments and its result are related.
 use mathlib.Core.Logic.{_↔_}
 use mathlib.Core.Path.{_≡_}
-use mathlib.Core.Bool.{Bool, false}
-use mathlib.Core.List.{List, _++_}
+use mathlib.Core.Bool.{Bool, true, false}
+use mathlib.Core.List.{List, _++_, List·Memᴰ}
+use mathlib.Core.Option.{some}
 use Prim.Native.Nat.{ℕ, _+_, _*_, _≤_, _<_}
 use lib.Dec.{leb}
 use lib.ListN.{length, getD, take, replicate}
@@ -14,7 +15,7 @@ use Rattle.rules.specs.Sequences.{any-of, keep}
 use Rattle.rules.specs.Words.{View, view, of-job, row-limit}
 use Rattle.rules.specs.Placing.{no-row}
 use Rattle.rules.specs.Withdrawing.{remove, ended}
-use Rattle.rules.specs.Refusals.{Call, submits, withdraws, moves, step, look, seen-number, refusal, submit-answer}
+use Rattle.rules.specs.Refusals.{Call, submits, withdraws, moves, step, look, running, seen-number, seen-row, refusal, submit-answer}
 use Rattle.rules.specs.Bounds.{largest-cost}
 use Rattle.rules.specs.Demands.{InRange}
 use Rattle.placement.specs.Columns.{ColumnOf}
@@ -41,14 +42,15 @@ Withdraws r n result = Steps r (withdraws n) result
 abbrev pub Moves : Register → ℕ → Reply → Type 0
 Moves r tick result = Steps r (moves tick) result
 
--- Look: what the rules see; by its number, 13 exactly if the machine is none of the table's.
+-- Look: what the rules see; by its number, 13 exactly if the machine is none of the table's; by its row, one that is on the machine at the tick.
 pub record Looks (r : Register) (m tick : ℕ) (seen : Seen) : Type 0 where
   pub seen-is : seen ≡ look (r .setup) (view (state-of r)) m tick
   pub refused : (seen-number seen ≡ 13) ↔ ((1 ≤ m) × (m ≤ r .setup .table .machines) → ⊥)
+  pub sees : (row : Row) → seen-row seen ≡ some row → List·Memᴰ row (state-of r .rows) × (running m tick row ≡ true)
 
 -- Parts of a submission.
 
--- the first of refusals 1 to 4, which no register decides
+-- the first of refusals 1 to 4: the answer whatever the clock and the rows
 pub record EarlyIs (s : Setup) (j : Job) (number : ℕ) : Type 0 where
   pub refused : (number ≡ 0 → ⊥) → (v : View) → submit-answer s v j ≡ refusal number 0
   pub in-range : number ≡ 0 → InRange s j
@@ -95,11 +97,11 @@ pub record Judges (r : Register) (j : Job) (v : Verdict) : Type 0 where
 
 -- what holds of all rows that have these jobs
 abbrev pub WithJobs : (jobs : List ℕ) (count : ℕ) → (List Row → Type 0) → Type 0
-WithJobs jobs count holds = (rows : List Row) → ColumnOf (λ row. row .job) rows count jobs → length rows ≡ row-limit → holds rows
+WithJobs jobs count holds = (rows : List Row) → ColumnOf 0 (λ row. row .job) rows count jobs → length rows ≡ row-limit → holds rows
 
 -- what holds of all rows that have these jobs and, row by row, this other figure
 abbrev pub WithBoth : (figure : Row → ℕ) (jobs column : List ℕ) (count : ℕ) → (List Row → Type 0) → Type 0
-WithBoth figure jobs column count holds = WithJobs jobs count (λ rows. ColumnOf figure rows count column → holds rows)
+WithBoth figure jobs column count holds = WithJobs jobs count (λ rows. ColumnOf 0 figure rows count column → holds rows)
 
 -- some row carries the number
 abbrev pub HeldIs : (jobs : List ℕ) (count number : ℕ) → Bool → Type 0
@@ -114,14 +116,9 @@ BegunIs jobs starts count job tick r =
 abbrev pub EndedIs : (jobs finishes : List ℕ) (count job tick : ℕ) → Bool → Type 0
 EndedIs jobs finishes count job tick r = WithBoth (λ row. row .finish) jobs finishes count (λ rows. r ≡ ended tick (keep (of-job job) (take count rows)))
 
--- which rows leave, up to the count
-pub record MaskOf (leaves : Row → Bool) (rows : List Row) (count : ℕ) (mask : List Bool) : Type 0 where
-  pub long : length mask ≡ row-limit
-  pub is : (i : ℕ) → i < count → getD mask i false ≡ leaves (getD rows i no-row)
-
 -- the rows of the job leave
 abbrev pub RowsOf : (jobs : List ℕ) (count job : ℕ) → List Bool → Type 0
-RowsOf jobs count job mask = WithJobs jobs count (λ rows. MaskOf (of-job job) rows count mask)
+RowsOf jobs count job mask = WithJobs jobs count (λ rows. ColumnOf false (of-job job) rows count mask)
 
 -- the rows of jobs that have ended leave
 abbrev pub RowsEnded : (jobs finishes : List ℕ) (count tick : ℕ) → List Bool → Type 0
@@ -131,12 +128,12 @@ RowsEnded jobs finishes count tick mask =
     jobs
     finishes
     count
-    (λ rows. MaskOf (λ row. ended tick (keep (of-job (row .job)) (take count rows))) rows count mask)
+    (λ rows. ColumnOf false (λ row. ended tick (keep (of-job (row .job)) (take count rows))) rows count mask)
 
 -- the rows that leave are gone, their cost is taken off, and the clock is the one given
 abbrev pub Removes : Register → (clock : ℕ) → List Bool → Register → Type 0
 Removes r clock mask left =
-    (leaves : Row → Bool) → MaskOf leaves (r .rows) (r .count) mask → left ≡ register-of (r .setup) (remove leaves (state-at clock r))
+    (leaves : Row → Bool) → ColumnOf false leaves (r .rows) (r .count) mask → left ≡ register-of (r .setup) (remove leaves (state-at clock r))
 
 -- the register without those rows and with that clock is what the call leaves
 abbrev pub RemovalIs : Register → Call → Removal → Type 0

@@ -1,11 +1,10 @@
 -- Demand 3 of the code: one claim about every list of calls, each handed the register that the last one left.
 use mathlib.Core.Path.{_≡_}
 use mathlib.Core.List.{List, [], _∷_}
-use Prim.Native.Nat.{ℕ}
 use Rattle.rules.specs.declared.Answer.{Answer}
 use Rattle.rules.specs.declared.Job.{Job}
 use Rattle.rules.specs.Words.{fresh, default-setup}
-use Rattle.rules.specs.Refusals.{submits, withdraws, moves, step, answers, after, struck}
+use Rattle.rules.specs.Refusals.{submits, withdraws, moves, step, answers, struck}
 use Rattle.rules.specs.Refusals as Rules
 use Rattle.rules.specs.Journal.{empty, journal-step}
 use Rattle.rules.specs.Demands.{register-left, Demand3, struck-calls}

@@ -1,9 +1,8 @@
 -- A register as a value: what it stands for, and what every call keeps of it.
 use mathlib.Core.Path.{_≡_}
-use mathlib.Core.List.{List, _++_}
+use mathlib.Core.List.{_++_}
 use Prim.Native.Nat.{ℕ, _-_, _≤_, _<_}
 use lib.ListN.{length, getD, take, replicate}
-use Rattle.rules.specs.declared.Row.{Row}
 use Rattle.rules.specs.declared.Setup.{Setup}
 use Rattle.rules.specs.Words.{State, row-limit}
 use Rattle.rules.specs.Placing.{no-row}

@@ -18,9 +18,9 @@ pub struct Figures {
 
 pub fn figures_of(rows: [Row; ROWS], count: usize) -> Figures
     requires { ⌜ count ≤ row-limit ⌝ }
-    ensures { λ r. ⌜ ColumnOf (λ row. row .job) rows count (r .jobs) ⌝ }
-    ensures { λ r. ⌜ ColumnOf (λ row. row .start) rows count (r .starts) ⌝ }
-    ensures { λ r. ⌜ ColumnOf (λ row. row .finish) rows count (r .finishes) ⌝ }
+    ensures { λ r. ⌜ ColumnOf 0 (λ row. row .job) rows count (r .jobs) ⌝ }
+    ensures { λ r. ⌜ ColumnOf 0 (λ row. row .start) rows count (r .starts) ⌝ }
+    ensures { λ r. ⌜ ColumnOf 0 (λ row. row .finish) rows count (r .finishes) ⌝ }
 {
     let mut figures = Figures {
         jobs: [0; ROWS],
@@ -78,8 +78,8 @@ pub fn rows_of(jobs: &[u64; ROWS], count: usize, number: u64) -> [bool; ROWS]
     leaves
 }
 
-// The rows of jobs whose every row ends at or before the tick. A row that is still to end answers for its job, and the rows of a job stand next to
-// each other: the others are looked at only where neither that nor the last answer serves.
+// The rows of jobs whose every row ends at or before the tick. A row still to end settles its job; a row of the same job as the one before takes that answer; else all
+// rows are looked through.
 pub fn rows_ended<'a>(
     jobs: &'a [u64; ROWS],
     finishes: &'a [u64; ROWS],

@@ -38,7 +38,7 @@ fn refused(number: u64, task: u64) -> Verdict
     }
 }
 
-// The first of refusals 1 to 4, which the job alone decides; 0 if none applies.
+// The first of refusals 1 to 4, which need neither clock nor rows; 0 if none applies.
 fn early(s: Setup, job: Job) -> u64
     requires { ⌜ s .table .machines ≤ most-machines ⌝ }
     ensures { λ r. ⌜ EarlyIs s job r ⌝ }
@@ -81,7 +81,7 @@ fn settled(count: usize, found: Placement) -> Verdict
     }
 }
 
-// The rows held are read once, into columns: tests and searches read those.
+// Refusals 1 to 8 in their order, or admission. The rows held are read once, into columns, which tests and searches read.
 fn judged(register: Register, job: Job) -> Verdict
     requires { ⌜ Valid register ⌝ }
     ensures { λ r. ⌜ Judges register job r ⌝ }

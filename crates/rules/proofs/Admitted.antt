@@ -1,21 +1,19 @@
 -- What an accepted submission has shown: that none of the tests 1 to 8 refuses it, each said by itself.
-use mathlib.Core.Path.{_≡_, refl, sym, ap, _∙_}
+use mathlib.Core.Path.{_≡_, refl, ap}
 use mathlib.Core.Bool.{Bool, true, false}
 use mathlib.Core.List.{List, _∷_}
-use mathlib.Core.Option.{Option, none, some}
+use mathlib.Core.Option.{none}
 use Prim.Native.Nat.{ℕ, _+_, _≤_}
 use native.Mathlib.Omega.{arith}
 use lib.Dec.{ltb}
 use lib.ListN.{length}
 use borrow.Author.Tests.{ltb-false, le-ltb}
-use Rattle.rules.specs.declared.Row.{Row}
 use Rattle.rules.specs.declared.Job.{Job}
 use Rattle.rules.specs.declared.Setup.{Setup}
 use Rattle.rules.specs.Words.{View, row-limit, largest-number}
 use Rattle.rules.specs.Placing.{Placing, booked, late}
 use Rattle.rules.specs.Refusals.{Test, refuse-if, outside, miscounted, out-of-range, bad-messages, first-infeasible, missed, found, placing, submit-tests, submit-answer}
-use Rattle.rules.specs.Demands.{NoRefusal, end, passes, AnsweredBy, InRange}
-use Rattle.rules.proofs.Sequences.{by-test}
+use Rattle.rules.specs.Demands.{NoRefusal, end, passes, InRange}
 use Rattle.rules.proofs.Demand1.{submit-answered}
 
 pub record Admitted (s : Setup) (v : View) (j : Job) : Type 0 where

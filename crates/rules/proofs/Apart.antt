@@ -1,10 +1,10 @@
 -- No two rows on one machine or one link share a tick, whatever is called.
 use mathlib.Core.Path.{_≡_, refl, sym, ap, _∙_, subst}
 use mathlib.Core.Logic.{⊎-elim}
-use mathlib.Core.Bool.{Bool, true, false, cond}
+use mathlib.Core.Bool.{true}
 use mathlib.Core.List.{List, [], _∷_, _++_, append-nil, append-assoc, map}
 use mathlib.Core.List.{List·Memᴰ, List·Memᴰ·append-cases, Memᴰ·append-left, Memᴰ·append-right}
-use Prim.Native.Nat.{ℕ, _+_, _≤_, _<_}
+use Prim.Native.Nat.{ℕ, _+_}
 use native.Mathlib.Omega.{arith}
 use borrow.Author.Tests.{eq-eqb}
 use Rattle.rules.specs.declared.Row.{Row}
@@ -21,7 +21,7 @@ use Rattle.rules.proofs.Pairs.{Pairwise, end, pairwise-keep, pairwise-s
 use Rattle.rules.proofs.LeastTick.{least-is-least}
 use Rattle.rules.proofs.Steps.{settle-keeps, after-keeps}
 use Rattle.rules.proofs.Turns.{place-keeps}
-use Rattle.rules.proofs.Inputs.{crossing, booking, booked-only, Shape, try-shape}
+use Rattle.rules.proofs.Inputs.{crossing, booking, booked-only, try-shape}
 
 abbrev pub Apart : Row → Row → Type 0
 Apart a b = resource a ≡ resource b → (tick : ℕ) → Within tick (span a) → Within tick (span b) → ⊥

@@ -97,10 +97,6 @@ module _ {A : Type 0} (f : A → List ℕ) where
   pub foremost-empty : {l : List A} {y : A} → foremost f l ≡ none → List·Memᴰ y l → ⊥
   foremost-empty {l} e m = List·Memᴰ·not-nil (rw (foremost-none l e) at m)
 
-  pub foremost-some : {l : List A} {y : A} → List·Memᴰ y l → (x : A) × (foremost f l ≡ some x)
-  unfolding foremost
-  foremost-some {l = x ∷ xs} m = (prior f x (foremost f xs), refl)
-
 -- The task placed next.
 
 pub task-mem : (j : Job) (t : ℕ) → IsTask j t → List·Memᴰ t (task-numbers j)

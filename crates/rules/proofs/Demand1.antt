@@ -3,7 +3,7 @@ use mathlib.Core.Path.{_≡_, refl, sym, _∙_, subst}
 use mathlib.Core.Logic.{_↔_, _≢_}
 use mathlib.Core.Bool.{Bool, true, false, cond}
 use mathlib.Core.List.{List, [], _∷_, map, List·Memᴰ, List·Memᴰ·head, List·Memᴰ·tail}
-use mathlib.Core.Option.{Option, none, some, Option·none-ne-some}
+use mathlib.Core.Option.{Option, none, some, Option·none-ne-some, Option·some-injective}
 use Prim.Native.Nat.{ℕ, _≤_}
 use native.Mathlib.Omega.{arith}
 use lib.Dec.{eqb}
@@ -16,9 +16,9 @@ use Rattle.rules.specs.declared.Seen.the-variants.{NoMachine}
 use Rattle.rules.specs.Sequences.{any-of, keep, numbers}
 use Rattle.rules.specs.Words.{machines, State, View, view}
 use Rattle.rules.specs.Refusals.{Test, judged, refusal, submit-tests, withdraw-tests, clock-tests, submit-answer, withdraw-answer, clock-answer}
-use Rattle.rules.specs.Refusals.{Call, submits, withdraws, moves, settle, step, look, running, seen-in, seen-number}
+use Rattle.rules.specs.Refusals.{Call, submits, withdraws, moves, settle, step, look, running, seen-in, seen-number, seen-row}
 use Rattle.rules.specs.Demands.{FirstRefusal, here, later, NoRefusal, end, passes, AnsweredBy, Demand1, Demand1-look}
-use Rattle.rules.proofs.Sequences.{by-test, clash, any-mem, any-witness, mem-map, mem-numbers, numbers-mem}
+use Rattle.rules.proofs.Sequences.{by-test, clash, any-mem, any-witness, mem-map, mem-keep, mem-numbers, numbers-mem}
 
 -- a test cannot both pass and refuse
 both : {C : Type 0} {o : Option ℕ} {t : ℕ} → o ≡ none → o ≡ some t → C
@@ -115,6 +115,17 @@ look-number s v m tick = go (any-of (eqb m) (machines s)) (keep (running m tick)
     go true (row ∷ rows) = refl
     go false rows = refl
 
+look-row : (s : Setup) (v : View) (m tick : ℕ) (row : Row) → seen-row (look s v m tick) ≡ some row → List·Memᴰ row (v .rows) × (running m tick row ≡ true)
+unfolding look seen-in
+look-row s v m tick row = go (any-of (eqb m) (machines s)) (keep (running m tick) (v .rows)) (λ x n. mem-keep (running m tick) (v .rows) n)
+  where
+    go :
+        (b : Bool) (rows : List Row) → ((x : Row) → List·Memᴰ x rows → List·Memᴰ x (v .rows) × (running m tick x ≡ true)) →
+        seen-row (elim b [ true ↦ seen-in rows | false ↦ NoMachine ]) ≡ some row → List·Memᴰ row (v .rows) × (running m tick row ≡ true)
+    go true [] of e = absurd (Option·none-ne-some row e)
+    go true (x ∷ rows) of e = rw (sym (Option·some-injective x row e)) (of x (List·Memᴰ·head refl))
+    go false rows of e = absurd (Option·none-ne-some row e)
+
 pub demand-1-look : (s : Setup) (v : View) (m tick : ℕ) → Demand1-look s v m tick
 demand-1-look s v m tick =
     let listed = machine-listed s m in
@@ -123,8 +134,10 @@ demand-1-look s v m tick =
     (λ h. let n : seen-number (look s v m tick) ≡ 0 = rw h at (look-number s v m tick) in record {
       refused = (λ e. absurd (omega arith), λ none-such. absurd (none-such (listed .0 h)));
       passed = (λ e. listed .0 h, λ range. n);
+      sees = look-row s v m tick;
     })
     (λ h. let n : seen-number (look s v m tick) ≡ 13 = rw h at (look-number s v m tick) in record {
       refused = (λ e range. clash (listed .1 range) h, λ none-such. n);
       passed = (λ e. absurd (omega arith), λ range. clash (listed .1 range) h);
+      sees = look-row s v m tick;
     })

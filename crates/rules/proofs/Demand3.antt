@@ -4,20 +4,19 @@ use mathlib.Core.Logic.{⊎-elim}
 use mathlib.Core.Bool.{true, false}
 use mathlib.Core.List.{List, [], _∷_, _++_, append-nil}
 use mathlib.Core.List.{List·Memᴰ, List·Memᴰ·append-cases, List·Memᴰ·eq-of-singleton, List·Memᴰ·not-nil, List·Memᴰ·head, List·Memᴰ·tail}
-use Prim.Native.Nat.{ℕ, _≤_}
+use Prim.Native.Nat.{ℕ}
 use native.Mathlib.Omega.{arith}
 use Rattle.rules.specs.declared.Row.{Row}
 use Rattle.rules.specs.declared.Message.{Message}
 use Rattle.rules.specs.declared.Job.{Job}
 use Rattle.rules.specs.declared.Setup.{Setup}
-use Rattle.rules.specs.Sequences.{any-of, count-of}
 use Rattle.rules.specs.Words.{View, fresh, messages-of}
 use Rattle.rules.specs.Placing.{books-task, books-message, placed, trial-rows, try, Placing, booked, late, place}
-use Rattle.rules.specs.Refusals.{miscounted, submit-answer, withdraw-answer, clock-answer, found, placing, Call, submits, withdraws, moves, step, after}
+use Rattle.rules.specs.Refusals.{submit-answer, withdraw-answer, clock-answer, found, placing, Call, submits, withdraws, moves, step, after}
 use Rattle.rules.specs.Journal.{Entry, Journal, empty, rows-in, journal-view, enter, journal-step}
 use Rattle.rules.specs.Laws.{IsTask, EndsListed}
-use Rattle.rules.specs.Demands.{InRange, rows-for, TaskDue, between, MessageDue, Owed, register-left, journal-left, Demand3}
-use Rattle.rules.proofs.Sequences.{or-false, any-witness, mem-keep, count-none, count-some}
+use Rattle.rules.specs.Demands.{rows-for, TaskDue, between, MessageDue, Owed, register-left, journal-left, Demand3}
+use Rattle.rules.proofs.Sequences.{any-witness, mem-keep, count-none, count-some}
 use Rattle.rules.proofs.Steps.{settle-keeps, after-keeps}
 use Rattle.rules.proofs.Turns.{place-keeps}
 use Rattle.rules.proofs.Inputs.{booked-only, try-shape}
@@ -27,7 +26,7 @@ use Rattle.rules.proofs.Order.{in-range-count, in-range-ends, in-range-
 use Rattle.rules.proofs.Differ.{turn-due}
 use Rattle.rules.proofs.AllPlaced.{all-placed}
 use Rattle.rules.proofs.Admitted.{Admitted, admitted}
-use Rattle.rules.proofs.Agreement.{Agree, agree-fresh, agree-after, rows-for-entry}
+use Rattle.rules.proofs.Agreement.{agree-fresh, agree-after, rows-for-entry}
 use Rattle.rules.proofs.Struck.{struck-state, struck-answers, step-still}
 
 -- What placing gives.

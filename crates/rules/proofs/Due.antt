@@ -1,28 +1,27 @@
 -- The rows that are due: what placing has booked so far, whatever is booked after it.
 use mathlib.Core.Path.{_≡_, refl, sym, ap, _∙_, subst}
 use mathlib.Core.Logic.{_⊎_, inl, inr, ⊎-elim}
-use mathlib.Core.Bool.{Bool, true, false, not, _||_, cond}
-use mathlib.Core.List.{List, [], _∷_, _++_, append-nil, append-assoc}
+use mathlib.Core.Bool.{Bool, true, false, not, _||_}
+use mathlib.Core.List.{List, [], _∷_, _++_, append-assoc}
 use mathlib.Core.List.{List·Memᴰ, List·Memᴰ·append-cases, List·Memᴰ·eq-of-singleton, List·Memᴰ·not-nil}
-use Prim.Native.Nat.{ℕ, suc, _+_, _≤_, _<_}
+use Prim.Native.Nat.{ℕ, _+_, _≤_, _<_}
 use native.Mathlib.Omega.{arith}
 use lib.Dec.{eqb}
-use lib.ListN.{length}
 use borrow.Author.Tests.{eqb-true, eqb-false, eq-eqb, not-true}
-use Rattle.rules.specs.declared.Holder.the-variants.{TaskOn, MessageOn}
+use Rattle.rules.specs.declared.Holder.the-variants.{MessageOn}
 use Rattle.rules.specs.declared.Row.{Row}
 use Rattle.rules.specs.declared.Message.{Message}
 use Rattle.rules.specs.declared.Job.{Job}
 use Rattle.rules.specs.declared.Setup.{Setup}
-use Rattle.rules.specs.Sequences.{any-of, all-of, count-of, keep, first-or}
+use Rattle.rules.specs.Sequences.{any-of, all-of, count-of, keep}
 use Rattle.rules.specs.Words.{messages-of, task-of, run-time}
-use Rattle.rules.specs.Placing.{task-booking, message-booking, transfer, is-task, is-message, books-task, books-message, no-row}
+use Rattle.rules.specs.Placing.{transfer, is-task, is-message, books-task, books-message, no-row}
 use Rattle.rules.specs.Placing.{task-row, message-row, machine-of, machine-for, placed, crosses, arrival, into, ready, release, all-arrived, Trial, trial-rows}
 use Rattle.rules.specs.Demands.{between, Owed, to-task, to-message}
 use Rattle.rules.specs.Laws.{IsTask}
-use Rattle.rules.proofs.Sequences.{by-test, clash, and-true, or-cases, any-append, or-right, or-false, all-mem, mem-keep, keep-mem, count-append, count-none, count-some, first-append, first-skip}
+use Rattle.rules.proofs.Sequences.{by-test, clash, and-true, or-cases, any-append, or-right, or-false, all-mem, mem-keep, keep-mem, count-append, count-none, first-append, first-skip}
 use Rattle.rules.proofs.Pairs.{Pairwise, pairwise-keep}
-use Rattle.rules.proofs.Inputs.{Differ, SamePair, same-pair-same, crossing, booking, Booked, booked-no-task, booked-only, booked-none, booked-found, Found, arrives-by, Shape, pair-books}
+use Rattle.rules.proofs.Inputs.{Differ, same-pair-same, crossing, booking, booked-no-task, booked-only, booked-none, booked-found, Found, arrives-by, Shape, pair-books}
 
 -- an arrival stays what it is while rows are added, once the sender is placed and the message's row, if it takes one, is there
 pub arrival-stays :

@@ -1,21 +1,20 @@
 -- A trial: the rows that its messages take are the bookings of those that cross to the machine, in their order, and its own row waits for all of them.
 use mathlib.Core.Path.{_≡_, refl, sym, ap, _∙_, subst}
 use mathlib.Core.Logic.{⊎-elim}
-use mathlib.Core.Bool.{Bool, true, false, _&&_, cond}
+use mathlib.Core.Bool.{Bool, true, false}
 use mathlib.Core.List.{List, [], _∷_, _++_, append-nil, append-assoc}
 use mathlib.Core.List.{List·Memᴰ, List·Memᴰ·head, List·Memᴰ·tail, List·Memᴰ·cases-cons, List·Memᴰ·not-nil}
-use Prim.Native.Nat.{ℕ, suc, _≤_, max}
+use Prim.Native.Nat.{ℕ, suc, _≤_}
 use native.Mathlib.Omega.{arith}
 use lib.Dec.{eqb}
-use lib.ListN.{length}
 use borrow.Author.Tests.{eqb-true, eq-eqb}
 use Rattle.rules.specs.declared.Row.{Row}
 use Rattle.rules.specs.declared.Message.{Message}
 use Rattle.rules.specs.declared.Job.{Job}
 use Rattle.rules.specs.declared.Setup.{Setup}
-use Rattle.rules.specs.Sequences.{any-of, count-of, keep, cons-if, first-or}
+use Rattle.rules.specs.Sequences.{any-of, count-of}
 use Rattle.rules.specs.Words.{Span, machine, link, run-time}
-use Rattle.rules.specs.Placing.{least-free, spans-on, task-booking, message-booking, transfer, is-task, is-message, books-task, books-message, no-row}
+use Rattle.rules.specs.Placing.{least-free, spans-on, task-booking, message-booking, transfer, is-task, is-message, books-task, books-message}
 use Rattle.rules.specs.Placing.{task-row, message-row, machine-for, crosses, arrival, into, release, message-trial, message-trials, all-arrived, Trial, try}
 use Rattle.rules.proofs.Sequences.{by-test, clash, and-true, and-both, count-none}
 use Rattle.rules.proofs.Pairs.{Pairwise, more}

@@ -1,5 +1,5 @@
 -- Facts of every pair of a list, the earlier element first.
-use mathlib.Core.Path.{_≡_, refl, sym, subst}
+use mathlib.Core.Path.{refl, sym, subst}
 use mathlib.Core.Logic.{⊎-elim}
 use mathlib.Core.Bool.{Bool, true, false}
 use mathlib.Core.List.{List, [], _∷_, _++_, List·Memᴰ, List·Memᴰ·head, List·Memᴰ·tail, List·Memᴰ·append-cases, Memᴰ·append-right, Memᴰ·append-left, List·Memᴰ·cases-cons, List·Memᴰ·not-nil}

@@ -1,11 +1,10 @@
 -- Laws of the list functions that the definitions use. They speak of no rule.
-use mathlib.Core.Path.{_≡_, refl, sym, ap, _∙_, subst}
+use mathlib.Core.Path.{_≡_, refl, sym, ap, _∙_}
 use mathlib.Core.Logic.{_⊎_, inl, inr, ⊎-elim}
 use mathlib.Core.Bool.{Bool, true, false, not, _||_, _&&_, true≢false}
-use mathlib.Core.List.{List, [], _∷_, _++_, map, List·Memᴰ, List·Memᴰ·head, List·Memᴰ·tail, List·Memᴰ·cases-cons, List·Memᴰ·not-nil, append-assoc}
+use mathlib.Core.List.{List, [], _∷_, _++_, map, List·Memᴰ, List·Memᴰ·head, List·Memᴰ·tail, List·Memᴰ·cases-cons, List·Memᴰ·not-nil}
 use Prim.Native.Nat.{ℕ, zero, suc, _+_, _≤_, _<_}
 use native.Mathlib.Omega.{arith}
-use native.Mathlib.Numerals.{add-one}
 use lib.ListN.{length, length-append, getD}
 use lib.Dec.{eqb}
 use borrow.Author.Tests.{eqb-true, eqb-false}
@@ -127,9 +126,6 @@ module _ {A : Type 0} where
   keep-same p q [] h = refl
   keep-same p q (x ∷ xs) h = rw (h x (List·Memᴰ·head refl)) (ap (cons-if (q x) x) (keep-same p q xs (λ y m. h y (List·Memᴰ·tail m))))
 
-  pub keep-keep : (p : A → Bool) (l : List A) → keep p (keep p l) ≡ keep p l
-  keep-keep p l = keep-all p (keep p l) (λ x m. mem-keep p l m .1)
-
   pub length-keep : (p : A → Bool) (l : List A) → length (keep p l) ≤ length l
   length-keep p [] = omega arith
   length-keep p (x ∷ xs) = go (p x) (length-keep p xs)
@@ -167,10 +163,6 @@ module _ {A : Type 0} where
   first-skip d p [] b e = refl
   first-skip d p (x ∷ a) b e =
       rw (or-false (p x) (any-of p a) e .0) (first-skip d p a b (or-false (p x) (any-of p a) e .1))
-
-  pub first-holds : (d : A) (p : A → Bool) (l : List A) → any-of p l ≡ true → p (first-or d p l) ≡ true
-  first-holds d p [] e = clash e refl
-  first-holds d p (x ∷ xs) e = by-test (p x) (λ h. rw h h) (λ h. let below : any-of p xs ≡ true = rw h at e in rw h (first-holds d p xs below))
 
   pub first-mem : (d : A) (p : A → Bool) (l : List A) → any-of p l ≡ true → List·Memᴰ (first-or d p l) l
   first-mem d p [] e = clash e refl

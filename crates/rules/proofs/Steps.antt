@@ -2,7 +2,6 @@
 use mathlib.Core.Path.{_≡_}
 use mathlib.Core.Bool.{true}
 use mathlib.Core.List.{List, [], _∷_}
-use Prim.Native.Nat.{ℕ}
 use borrow.Author.Tests.{eqb-true}
 use Rattle.rules.specs.declared.Answer.{Answer}
 use Rattle.rules.specs.Refusals.{accepted, Call, Step, settle, after}

@@ -3,7 +3,7 @@ use mathlib.Core.Path.{_≡_}
 use mathlib.Core.Logic.{_↔_, _≢_}
 use mathlib.Core.Bool.{Bool, true, false}
 use mathlib.Core.List.{List, [], _∷_, map, List·Memᴰ}
-use mathlib.Core.Option.{Option, none, some}
+use mathlib.Core.Option.{none, some}
 use Prim.Native.Nat.{ℕ, _+_, _≤_, _<_}
 use lib.ListN.{length, getD}
 use Rattle.rules.specs.declared.Holder.the-variants.{MessageOn}
@@ -17,7 +17,7 @@ use Rattle.rules.specs.Words.{Within, resource, span, largest-number, ro
 use Rattle.rules.specs.Words.{State, View, view, fresh, of-job}
 use Rattle.rules.specs.Placing.{books-task, books-message, no-row, task-row, message-row, machine-for, placed, crosses, arrival, transfer, booked}
 use Rattle.rules.specs.Withdrawing.{admit}
-use Rattle.rules.specs.Refusals.{Test, submit-tests, withdraw-tests, clock-tests, submit-answer, withdraw-answer, clock-answer, placing, look, seen-number}
+use Rattle.rules.specs.Refusals.{Test, submit-tests, withdraw-tests, clock-tests, placing, look, running, seen-number, seen-row}
 use Rattle.rules.specs.Refusals.{outside, miscounted, out-of-range, bad-messages, accepted, Call, submits, withdraws, moves, step, answers, after, struck}
 use Rattle.rules.specs.Journal.{Entry, Journal, empty, rows-in, journal-total, journal-step}
 use Rattle.rules.specs.Laws.{IsTask}
@@ -53,10 +53,11 @@ pub record Demand1 (s : Setup) (st : State) (c : Call) : Type 0 where
   pub answered : AnsweredBy (tests-for s (view st) c) (step s st c .answer)
   pub untouched : step s st c .answer .number ≢ 0 → step s st c .left ≡ st
 
--- a look answers 13 exactly for a machine that the table does not have, and else 0
+-- a look answers 13 exactly for a machine that the table does not have, and else 0; the row seen is one that is on the machine at the tick
 pub record Demand1-look (s : Setup) (v : View) (m tick : ℕ) : Type 0 where
   pub refused : (seen-number (look s v m tick) ≡ 13) ↔ ((1 ≤ m) × (m ≤ s .table .machines) → ⊥)
   pub passed : (seen-number (look s v m tick) ≡ 0) ↔ ((1 ≤ m) × (m ≤ s .table .machines))
+  pub sees : (row : Row) → seen-row (look s v m tick) ≡ some row → List·Memᴰ row (v .rows) × (running m tick row ≡ true)
 
 -- Demand 2: a job is admitted exactly when DRCD places it, with DRCD's rows.
 

@@ -4,7 +4,6 @@ use mathlib.Core.List.{List, [], _∷_, _++_, map}
 use Prim.Native.Nat.{ℕ, _+_, _-_, _*_}
 use lib.Dec.{eqb}
 use lib.ListN.{length, replicate}
-use Rattle.rules.specs.declared.Holder.the-variants.{TaskOn, MessageOn}
 use Rattle.rules.specs.declared.Row.{Row}
 use Rattle.rules.specs.declared.Task.{Task}
 use Rattle.rules.specs.declared.Message.{Message}
@@ -16,10 +15,10 @@ use Rattle.rules.specs.Placing
 use Rattle.rules.specs.Withdrawing
 use Rattle.rules.specs.Refusals
 use Rattle.rules.specs.Sequences.{numbers}
-use Rattle.rules.specs.Words.{Span, State, fresh, view, default-setup}
-use Rattle.rules.specs.Placing.{least-free, costs}
-use Rattle.rules.specs.Refusals.{Call, submits, withdraws, moves, step, answers, after, refusal, submit-answer}
-use Rattle.rules.specs.Ledger.{task, message, job-with, job, on, over-link, admitted, Given, calls, asked, sought, Outcome, leaves, answered, tick, outcome, Example, job-A, job-H}
+use Rattle.rules.specs.Words.{State, fresh}
+use Rattle.rules.specs.Placing.{costs}
+use Rattle.rules.specs.Refusals.{submits, withdraws, moves, refusal}
+use Rattle.rules.specs.Ledger.{task, message, job-with, job, on, over-link, admitted, Given, calls, asked, Outcome, leaves, answered, Example, job-A, job-H}
 
 -- How the second table is written.
 

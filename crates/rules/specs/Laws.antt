@@ -1,9 +1,8 @@
 -- What the laws of proofs/ show of the definitions, in the words of document 01 and of the paper.
 use mathlib.Core.Path.{_≡_}
-use mathlib.Core.Bool.{true, false}
-use mathlib.Core.List.{List, [], _∷_, List·Memᴰ}
+use mathlib.Core.Bool.{true}
+use mathlib.Core.List.{List, List·Memᴰ}
 use Prim.Native.Nat.{ℕ, _+_, _≤_, _<_}
-use lib.ListN.{length}
 use Rattle.rules.specs.declared.Job.{Job}
 use Rattle.rules.specs.declared.Message.{Message}
 use Rattle.rules.specs.declared.Row.{Row}

@@ -1,9 +1,7 @@
 -- Document 01, "Ledger of examples": those with a star, as one table.
-use mathlib.Core.Bool.{cond}
-use mathlib.Core.List.{List, [], _∷_, _++_, map}
-use Prim.Native.Nat.{ℕ, _+_, _-_, _*_}
-use lib.Dec.{eqb}
-use lib.ListN.{length, replicate}
+use mathlib.Core.List.{List, [], _∷_}
+use Prim.Native.Nat.{ℕ, _-_}
+use lib.ListN.{length}
 use Rattle.rules.specs.declared.Holder.the-variants.{TaskOn, MessageOn}
 use Rattle.rules.specs.declared.Row.{Row}
 use Rattle.rules.specs.declared.Task.{Task}
@@ -15,9 +13,8 @@ use Rattle.rules.specs.Words
 use Rattle.rules.specs.Placing
 use Rattle.rules.specs.Withdrawing
 use Rattle.rules.specs.Refusals
-use Rattle.rules.specs.Sequences.{numbers}
 use Rattle.rules.specs.Words.{Span, State, fresh, view, default-setup}
-use Rattle.rules.specs.Placing.{least-free, costs}
+use Rattle.rules.specs.Placing.{least-free}
 use Rattle.rules.specs.Refusals.{Call, submits, withdraws, moves, step, answers, after, refusal, submit-answer}
 
 -- How the tables are written.

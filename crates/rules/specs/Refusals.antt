@@ -6,16 +6,15 @@ use Prim.Native.Nat.{ℕ, _+_}
 use lib.Dec.{ltb, leb, eqb}
 use lib.ListN.{length}
 use Rattle.rules.specs.declared.Row.{Row}
-use Rattle.rules.specs.declared.Task.{Task}
 use Rattle.rules.specs.declared.Message.{Message}
 use Rattle.rules.specs.declared.Job.{Job}
 use Rattle.rules.specs.declared.Setup.{Setup}
 use Rattle.rules.specs.declared.Answer.{Answer}
 use Rattle.rules.specs.declared.Seen.{Seen}
 use Rattle.rules.specs.declared.Seen.the-variants.{Idle, Booked, NoMachine}
-use Rattle.rules.specs.Sequences.{any-of, all-of, keep, cons-if, precedes, foremost}
+use Rattle.rules.specs.Sequences.{any-of, keep, cons-if, precedes, foremost}
 use Rattle.rules.specs.Words.{largest-number, most-tasks, most-messages, largest-time, largest-volume, horizon, row-limit}
-use Rattle.rules.specs.Words.{machine, same, resource, machines, messages-of, task-numbers, task-of, run-time, State, View, view, of-job}
+use Rattle.rules.specs.Words.{machine, same, resource, machines, messages-of, task-numbers, task-of, run-time, State, View, view}
 use Rattle.rules.specs.Placing.{Placing, booked, late, place, costs}
 use Rattle.rules.specs.Withdrawing.{admit, withdraw, advance}
 

@@ -5,7 +5,7 @@ use Prim.Native.Nat.{ℕ, _+_, _-_}
 use lib.Dec.{leb}
 use Rattle.rules.specs.declared.Row.{Row}
 use Rattle.rules.specs.Sequences.{keep, all-of}
-use Rattle.rules.specs.Words.{State, View, view, of-job}
+use Rattle.rules.specs.Words.{State, view, of-job}
 use Rattle.rules.specs.Placing.{costs}
 
 -- the rows of an admitted job go after the held ones, and its cost is added

@@ -1,9 +1,9 @@
 -- Document 01, "Words and ranges".
-use mathlib.Core.Bool.{Bool, true, false, _&&_}
+use mathlib.Core.Bool.{Bool, false, _&&_}
 use mathlib.Core.List.{List, [], _∷_}
 use Prim.Native.Nat.{ℕ, _+_, _-_, _*_, _≤_, _<_, max, min}
-use lib.Dec.{ltb, leb, eqb}
-use lib.ListN.{getD, take, length}
+use lib.Dec.{ltb, eqb}
+use lib.ListN.{getD, take}
 use Rattle.rules.specs.declared.Holder.{Holder}
 use Rattle.rules.specs.declared.Holder.the-variants.{TaskOn, MessageOn}
 use Rattle.rules.specs.declared.Row.{Row}

@@ -10,7 +10,7 @@ pub const TASKS: usize = 16;
 
 pub const MESSAGES: usize = 32;
 
-// The rows that a register holds.
+// The most rows that a register holds.
 pub const ROWS: usize = 256;
 
 // A task of a job. The deadline is a tick of the clock; a run time of 0 says that the machine cannot run it.

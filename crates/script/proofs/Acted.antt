@@ -1,29 +1,27 @@
 -- Acts: what was read after an act line, and how long an act is.
 use mathlib.Core.Path.{_≡_, refl, sym, ap, _∙_}
-use mathlib.Core.Bool.{Bool, true, false}
-use mathlib.Core.List.{List, [], _∷_}
-use Prim.Native.Nat.{ℕ, _+_, _-_, _*_, _≤_, _<_}
+use mathlib.Core.Bool.{true, false}
+use mathlib.Core.List.{List}
+use Prim.Native.Nat.{ℕ, _+_, _-_, _≤_, _<_}
 use native.Mathlib.Omega.{arith}
 use lib.Dec.{leb}
-use lib.ListN.{length, take, drop, length-drop}
-use borrow.Author.Tests.{leb-true, leb-false, le-leb, lt-leb}
+use lib.ListN.{length, drop, length-drop}
+use borrow.Author.Tests.{le-leb, lt-leb}
 use Rattle.rules.specs.declared.Job.{Job}
 use Rattle.rules.specs.Refusals.{Call, submits, withdraws, moves}
-use Rattle.rules.proofs.Sequences.{by-test}
 use Rattle.reservation.specs.declared.calls.Kind.{Kind}
 use Rattle.reservation.specs.Chains.{kind-of}
 use Rattle.jobtext.specs.declared.line.Line.the-variants.{Figure, Refused}
-use Rattle.jobtext.specs.declared.job.Outcome.{Outcome}
 use Rattle.jobtext.specs.declared.job.Outcome.the-variants.{Read, Stopped}
 use Rattle.jobtext.specs.declared.job.JobRead.{JobRead}
 use Rattle.jobtext.specs.Lines.{Parsed, parsed, refused, Due, any-figure, begins, line}
 use Rattle.jobtext.specs.JobText.{job-key, job-text}
-use Rattle.jobtext.specs.Answers.{line-said, outcome-said, answered, Reads}
+use Rattle.jobtext.specs.Answers.{line-said, answered, Reads}
 use Rattle.jobtext.proofs.Begun.{key-fits}
 use Rattle.jobtext.proofs.Progress.{line-within, line-read, line-refused}
 use Rattle.jobtext.proofs.Staged.{job-within}
 use Rattle.script.specs.declared.acts.Turn.{Turn}
-use Rattle.script.specs.declared.acts.Turn.the-variants.{Ended, Called, Unread}
+use Rattle.script.specs.declared.acts.Turn.the-variants.{Called}
 use Rattle.script.specs.declared.acts.NextAct.{NextAct}
 use Rattle.script.specs.Acts.{Act, ended, call, unread, as-act, act, submit-line, withdraw-line, clock-line, tick-key}
 use Rattle.script.specs.Answers.{turn-act, act-said}

@@ -1,18 +1,15 @@
 -- Demand 3 of every script: what is printed is the journal's.
-use mathlib.Core.Path.{_≡_, refl, sym, ap, _∙_}
-use mathlib.Core.List.{List, _++_}
-use Prim.Native.Nat.{ℕ, _≤_}
+use mathlib.Core.Path.{_≡_, refl, ap, _∙_}
+use mathlib.Core.List.{List}
+use Prim.Native.Nat.{ℕ}
 use lib.ListN.{length}
 use borrow.Author.Tests.{le-ltb}
 use Rattle.rules.specs.declared.Row.{Row}
-use Rattle.rules.specs.Words.{State, fresh, default-setup}
-use Rattle.rules.specs.Refusals.{step, answers, after}
-use Rattle.rules.specs.Journal.{empty, journal-step}
+use Rattle.rules.specs.Words.{State, default-setup}
+use Rattle.rules.specs.Refusals.{answers}
 use Rattle.rules.specs.Demands.{register-left, journal-left, Demand3}
 use Rattle.rules.proofs.Demand3.{demand-3}
-use Rattle.script.specs.Replies.{stop-line}
-use Rattle.script.specs.Listing.{listing}
-use Rattle.script.specs.Program.{script, replies, printed, program, input-limit, journal-state, Demand3-of-script}
+use Rattle.script.specs.Program.{script, printed, program, input-limit, journal-state, Demand3-of-script}
 
 -- equal fields, equal states
 same-state : (a b : State) → a .clock ≡ b .clock → a .rows ≡ b .rows → a .total ≡ b .total → a ≡ b

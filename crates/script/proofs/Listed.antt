@@ -1,10 +1,10 @@
 -- Rows listed one by one, and what a valid register gives the listing.
 use mathlib.Core.Path.{_≡_, refl, sym, ap, _∙_, subst}
-use mathlib.Core.List.{List, [], _∷_, _++_, map, append-assoc, append-nil, List·Memᴰ}
+use mathlib.Core.List.{List, [], _∷_, _++_, map, append-assoc, append-nil}
 use Prim.Native.Nat.{ℕ, zero, suc, _+_, _*_, _%_, _≤_, _<_}
 use native.Mathlib.Omega.{arith}
 use native.Mathlib.Numerals.{add-one}
-use lib.ListN.{length, getD, take, length-append, length-take, length-map, List·getD-map}
+use lib.ListN.{length, getD, take, length-take, length-map}
 use lib.Seq.{take-suc, getD-take, take-all}
 use Rattle.rules.specs.declared.Holder.{Holder}
 use Rattle.rules.specs.declared.Holder.the-variants.{TaskOn, MessageOn}
@@ -18,10 +18,10 @@ use Rattle.rules.proofs.Sequences.{getD-mem}
 use Rattle.reservation.specs.declared.Register.{Register}
 use Rattle.reservation.specs.Registers.{state-of, Valid}
 use Rattle.jobtext.specs.Put.{Puts, joined, field}
-use Rattle.jobtext.proofs.Put.{put-none, puts-then, puts-long}
+use Rattle.jobtext.proofs.Put.{puts-then}
 use Rattle.script.specs.Listing.{clock-key, total-key, held-key, row-bytes, sorted, heading, listing}
-use Rattle.script.specs.Answers.{Coded, task, message, AskCode, AskOrder, OrderIs, order-number, PutsAtMost, most-row}
-use Rattle.script.proofs.Fields.{Within, within-none, within-then, within-next, within-room}
+use Rattle.script.specs.Answers.{Coded, task, message, AskOrder, OrderIs, order-number, PutsAtMost, most-row}
+use Rattle.script.proofs.Fields.{Within, within-none, within-then, within-room}
 use Rattle.script.proofs.Ordered.{key-place}
 
 joined-append : (a b : List (List ℕ)) → joined (a ++ b) ≡ joined a ++ joined b
@@ -84,9 +84,6 @@ module _ (old : List ℕ) (at : ℕ) (rows : List Row) (count : ℕ) (keys : Lis
 
     pub row-there : row-at place-at ≡ getD in-order k no-row
     row-there = sym (getD-map-in row-at (w .places) k no-row 0 (let l = places-long in omega arith)) ∙ ap (λ l. getD l k no-row) (w .rows-are)
-
-    pub place-within : getD keys k 0 % 256 < 256
-    place-within = omega arith
 
   pub rows-none : RowsListed old at rows count old at 0
   rows-none = record { within = within-none (omega arith); at-most = omega arith }

@@ -1,17 +1,15 @@
 -- A script run act by act: what has been printed, and what is still to come.
 use mathlib.Core.Path.{_≡_, refl, sym, ap, _∙_, subst}
-use mathlib.Core.Bool.{Bool, true, false, cond}
 use mathlib.Core.List.{List, [], _∷_, _++_, append-assoc}
 use mathlib.Core.Option.{Option, none, some}
 use Prim.Native.Nat.{ℕ, zero, suc, _+_, _-_, _*_, _≤_, _<_}
 use native.Mathlib.Nat.{zero-add}
 use native.Mathlib.Omega.{arith}
-use lib.Dec.{ltb, leb}
-use lib.ListN.{length, take, drop, length-drop, length-append, length-take}
+use lib.Dec.{ltb}
+use lib.ListN.{length, take, drop, length-drop, length-append}
 use lib.Seq.{take-at, drop-at}
-use borrow.Author.Tests.{leb-true, leb-false, lt-ltb, le-ltb}
+use borrow.Author.Tests.{lt-ltb, le-ltb}
 use Rattle.rules.specs.declared.Job.{Job}
-use Rattle.rules.specs.declared.Answer.{Answer}
 use Rattle.rules.specs.declared.Setup.{Setup}
 use Rattle.rules.specs.Words.{State, fresh, default-setup}
 use Rattle.rules.specs.Refusals.{Call, submits, withdraws, moves, step, answers, after}
@@ -31,7 +29,7 @@ use Rattle.jobtext.specs.Put.{Puts, field}
 use Rattle.jobtext.proofs.Progress.{line-within}
 use Rattle.jobtext.proofs.Staged.{job-within}
 use Rattle.jobtext.proofs.Numbers.{by-less}
-use Rattle.jobtext.proofs.Put.{puts-then, puts-long}
+use Rattle.jobtext.proofs.Put.{puts-then}
 use Rattle.script.specs.declared.acts.Turn.{Turn}
 use Rattle.script.specs.declared.acts.Turn.the-variants.{Ended, Called, Unread}
 use Rattle.script.specs.Acts.{Act, ended, call, unread, as-act, act, submit-line, withdraw-line, clock-line, tick-key}

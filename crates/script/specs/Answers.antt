@@ -1,6 +1,6 @@
 -- What the code's functions answer, in the words of the definitions.
 use mathlib.Core.Path.{_≡_}
-use mathlib.Core.List.{List, _∷_, [], map, List·Memᴰ}
+use mathlib.Core.List.{List, map, List·Memᴰ}
 use Prim.Native.Nat.{ℕ, _+_, _*_, _≤_, _<_}
 use lib.Dec.{ltb}
 use mathlib.Core.Option.{Option, none, some}

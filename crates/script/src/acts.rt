@@ -13,7 +13,7 @@ ghost use lib.ListN.{length, drop};
 ghost use Rattle.rules.specs.Refusals.{submits, withdraws, moves};
 ghost use Rattle.jobtext.specs.Lines.{any-figure, line};
 ghost use Rattle.jobtext.specs.JobText.{job-key, job-text};
-ghost use Rattle.script.specs.Acts.{unread, as-act, tick-key, act};
+ghost use Rattle.script.specs.Acts.{as-act, tick-key, act};
 ghost use Rattle.script.specs.Answers.{act-said};
 
 // The ordinary end, a call and the place after it, or the number of a reading refusal.

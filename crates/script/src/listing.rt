@@ -14,7 +14,7 @@ ghost use Rattle.jobtext.specs.JobText.{job-key, from-key, to-key};
 ghost use Rattle.jobtext.specs.Put.{Puts, joined, field};
 ghost use Rattle.script.specs.Replies.{task-key};
 ghost use Rattle.script.specs.Listing.{clock-key, total-key, held-key, machine-key, link-key, start-key, finish-key, row-bytes, sorted, listing};
-ghost use Rattle.script.specs.Answers.{PutsAtMost, most-heading, most-row, most-listing, AskRows, AskListing};
+ghost use Rattle.script.specs.Answers.{PutsAtMost, most-heading, most-row, AskRows, AskListing};
 
 fn put_heading(output: &mut [u8], at: usize, clock: u64, total: u64, held: u64) -> usize
     requires { ⌜ at + most-heading ≤ length (now output) ⌝ }

@@ -3,7 +3,7 @@ use borrow.Author.Needs.{needs}
 use native.Mathlib.Omega.{arith}
 use Prim.Native.Nat.{_-_, _≤_}
 use lib.ListN.{length}
-use mathlib.Core.Path.{_≡_, refl, sym, ap, _∙_}
+use mathlib.Core.Path.{refl}
 use Rattle.cases.specs.declared.Case.the-variants.{Checked}
 use Rattle.cases.specs.Cases.{CaseIs}
 use Rattle.cases.proofs.check_all.Statement.{statement}

@@ -1,6 +1,6 @@
 -- `cases::is_expected` meets its contract.
 use native.Mathlib.Omega.{arith}
-use mathlib.Core.Path.{_≡_, refl, sym, ap, _∙_}
+use mathlib.Core.Path.{sym, ap, _∙_}
 use borrow.Author.Needs.{needs}
 use lib.ListN.{length, length-take}
 use Rattle.cases.proofs.is_expected.Statement.{statement}

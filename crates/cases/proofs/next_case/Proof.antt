@@ -1,8 +1,6 @@
 -- `cases::next_case` meets its contract.
 use native.Mathlib.Omega.{arith}
-use mathlib.Core.Path.{_≡_, refl, sym, ap, _∙_}
 use borrow.Author.Needs.{needs}
-use Prim.Native.Nat.{_≤_, _<_}
 use lib.ListN.{length}
 use Rattle.cases.specs.declared.Part.the-variants.{Bytes}
 use Rattle.cases.specs.Cases.{PartIs}

@@ -1,6 +1,6 @@
 -- `cases::read_part` meets its contract.
 use native.Mathlib.Omega.{arith}
-use mathlib.Core.Path.{_≡_, refl, sym, ap, _∙_}
+use mathlib.Core.Path.{sym, _∙_}
 use borrow.Author.Needs.{needs}
 use Rattle.jobtext.specs.Lines.{any-figure, line}
 use Rattle.jobtext.proofs.Progress.{line-read, line-within}

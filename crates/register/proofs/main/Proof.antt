@@ -1,6 +1,6 @@
 -- `register::main` meets its contract: the parts of the buffers that are lent lie within them.
 use native.Mathlib.Omega.{arith}
-use mathlib.Core.Path.{_≡_, refl, sym, ap, _∙_}
+use mathlib.Core.Path.{_≡_, sym, ap, _∙_}
 use borrow.Author.Needs.{needs}
 use lib.ListN.{length, length-take}
 use lib.Seq.{length-take-le}

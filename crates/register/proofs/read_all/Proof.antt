@@ -3,7 +3,7 @@ use borrow.Author.Needs.{needs}
 use native.Mathlib.Omega.{arith}
 use Prim.Native.Nat.{_-_, _≤_}
 use lib.ListN.{length}
-use mathlib.Core.Path.{_≡_, refl, sym, ap, _∙_}
+use mathlib.Core.Path.{_≡_, refl, _∙_}
 use Rattle.register.specs.declared.Input.the-variants.{Bytes}
 use Rattle.register.specs.Reading.{ReadInto}
 use Rattle.register.proofs.read_all.Statement.{statement}

@@ -1,6 +1,5 @@
 -- `script::run` meets its contract: an input above the limit is not acted on.
-use native.Mathlib.Omega.{arith}
-use mathlib.Core.Path.{_≡_, refl, sym, ap, _∙_}
+use mathlib.Core.Path.{_≡_, _∙_}
 use borrow.Author.Needs.{needs}
 use lib.ListN.{length}
 use Rattle.script.proofs.Running.{whole-run, too-long, not-long}

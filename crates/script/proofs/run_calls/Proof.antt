@@ -1,8 +1,8 @@
 -- `script::run_calls` meets its contract: an act is read, applied and answered in a turn.
 use borrow.Author.Needs.{needs}
 use native.Mathlib.Omega.{arith}
-use mathlib.Core.Path.{_≡_, refl, sym, ap, _∙_}
-use Prim.Native.Nat.{ℕ, _-_}
+use mathlib.Core.Path.{sym, ap, _∙_}
+use Prim.Native.Nat.{_-_}
 use lib.ListN.{length}
 use mathlib.Core.Logic.{⊎-elim}
 use Rattle.script.specs.declared.acts.Turn.{Turn}

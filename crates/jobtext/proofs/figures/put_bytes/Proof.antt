@@ -1,5 +1,4 @@
 -- `jobtext::figures::put_bytes` meets its contract: i bytes are copied.
-use mathlib.Core.Path.{refl}
 use Prim.Native.Nat.{_-_}
 use native.Mathlib.Omega.{arith}
 use lib.ListN.{length}

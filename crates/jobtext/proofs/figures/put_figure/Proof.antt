@@ -1,10 +1,8 @@
 -- `jobtext::figures::put_figure` meets its contract: from i on the last digits stand, and those of `rest` are still to come.
-use mathlib.Core.Path.{_≡_, refl, sym, ap, _∙_, subst}
+use mathlib.Core.Path.{sym, _∙_, subst}
 use Prim.Native.Nat.{ℕ, _+_, _-_, _/_, _≤_, _<_}
-use mathlib.Core.List.{List}
 use native.Mathlib.Omega.{arith}
 use lib.ListN.{length, set, length-set}
-use borrow.Author.Needs.{needs}
 use Rattle.jobtext.specs.Figures.{decimal}
 use Rattle.jobtext.specs.Put.{Puts}
 use Rattle.jobtext.proofs.Decimals.{word-length}

@@ -1,5 +1,4 @@
 -- `jobtext::figures::width` meets its contract: `count` digits are counted, and those of `rest` are not.
-use mathlib.Core.Path.{refl}
 use native.Mathlib.Omega.{arith}
 use Rattle.jobtext.proofs.Put.{Counted, counted-more, counted-all, count-bound}
 use Rattle.jobtext.proofs.figures.width.Statement.{statement}

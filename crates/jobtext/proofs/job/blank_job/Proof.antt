@@ -1,6 +1,5 @@
 -- `jobtext::job::blank_job` meets its contract.
-use native.Mathlib.Omega.{arith}
-use mathlib.Core.Path.{_≡_, refl, sym, ap, _∙_}
+use mathlib.Core.Path.{refl}
 use borrow.Author.Needs.{needs}
 use Rattle.jobtext.proofs.job.blank_job.Statement.{statement}
 use Rattle.jobtext.proofs.job.blank_job.Tie as tie

@@ -1,6 +1,5 @@
 -- `jobtext::job::no_head` meets its contract.
-use native.Mathlib.Omega.{arith}
-use mathlib.Core.Path.{_≡_, refl, sym, ap, _∙_}
+use mathlib.Core.Path.{refl}
 use borrow.Author.Needs.{needs}
 use Rattle.jobtext.proofs.job.no_head.Statement.{statement}
 use Rattle.jobtext.proofs.job.no_head.Tie as tie

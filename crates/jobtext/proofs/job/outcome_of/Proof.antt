@@ -1,6 +1,5 @@
 -- `jobtext::job::outcome_of` meets its contract.
-use native.Mathlib.Omega.{arith}
-use mathlib.Core.Path.{_≡_, refl, sym, ap, _∙_}
+use mathlib.Core.Path.{refl}
 use borrow.Author.Needs.{needs}
 use Rattle.jobtext.proofs.job.outcome_of.Statement.{statement}
 use Rattle.jobtext.proofs.job.outcome_of.Tie as tie

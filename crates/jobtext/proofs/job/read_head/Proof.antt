@@ -1,11 +1,10 @@
 -- `jobtext::job::read_head` meets its contract: three lines, each read or refused in turn.
-use mathlib.Core.Path.{_≡_, refl, sym, ap, _∙_}
+use mathlib.Core.Path.{refl, sym, _∙_}
 use mathlib.Core.List.{[], _∷_}
 use native.Mathlib.Omega.{arith}
 use lib.ListN.{drop}
 use borrow.Author.Needs.{needs}
 use Rattle.jobtext.specs.JobText.{head-lines}
-use Rattle.jobtext.specs.Answers.{unread}
 use Rattle.jobtext.proofs.Progress.{Progress, starts, goes-on, ends, stops}
 use Rattle.jobtext.proofs.job.read_head.Statement.{statement}
 use Rattle.jobtext.proofs.job.read_head.Tie as tie

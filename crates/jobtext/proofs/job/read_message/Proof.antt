@@ -1,5 +1,5 @@
 -- `jobtext::job::read_message` meets its contract: three lines, each read or refused in turn.
-use mathlib.Core.Path.{_≡_, refl, sym, _∙_}
+use mathlib.Core.Path.{refl, sym, _∙_}
 use mathlib.Core.List.{[], _∷_}
 use lib.ListN.{drop}
 use borrow.Author.Needs.{needs}

@@ -1,9 +1,9 @@
 -- `jobtext::job::read_runs` meets its contract: one run time is read in a turn.
-use mathlib.Core.Path.{_≡_, refl, sym, ap, _∙_}
+use mathlib.Core.Path.{refl, sym, _∙_}
 use mathlib.Core.List.{List, [], _∷_}
 use Prim.Native.Nat.{ℕ, _-_}
 use native.Mathlib.Omega.{arith}
-use lib.ListN.{length, getD}
+use lib.ListN.{getD}
 use borrow.Author.Needs.{needs}
 use Rattle.jobtext.specs.Lines.{Due, any-figure}
 use Rattle.jobtext.specs.JobText.{run-key}

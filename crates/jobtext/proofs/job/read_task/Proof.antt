@@ -1,5 +1,5 @@
 -- `jobtext::job::read_task` meets its contract: two lines and the run times, each read or refused in turn.
-use mathlib.Core.Path.{_≡_, refl, sym, _∙_}
+use mathlib.Core.Path.{refl, sym, _∙_}
 use mathlib.Core.List.{[], _∷_}
 use lib.ListN.{drop}
 use borrow.Author.Needs.{needs}

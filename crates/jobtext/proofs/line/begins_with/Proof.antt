@@ -2,7 +2,6 @@
 use Prim.Native.Nat.{_-_}
 use native.Mathlib.Omega.{arith}
 use lib.ListN.{length}
-use borrow.Author.Needs.{needs}
 use Rattle.jobtext.proofs.Begun.{Compared, compared-none, compared-more, differs, text-ended, key-ended}
 use Rattle.jobtext.proofs.line.begins_with.Statement.{statement}
 use Rattle.jobtext.proofs.line.begins_with.Tie as tie

@@ -1,7 +1,6 @@
 -- `jobtext::line::scan` meets its contract: `count` digits have been read, and they say `value`.
 use Prim.Native.Nat.{_-_}
 use native.Mathlib.Omega.{arith}
-use lib.ListN.{length}
 use borrow.Author.Needs.{needs}
 use Rattle.jobtext.proofs.Scanned.{digit-yes, digit-below, digit-above, no-digit, at-end, Scanned, scanned-none, scanned-more, scan-bound, scan-stops, scan-many}
 use Rattle.jobtext.proofs.line.scan.Statement.{statement}

@@ -1,11 +1,11 @@
 -- `placement::chains::chain_back` meets its contract: the first i entries are chained.
-use Prim.Native.Nat.{ℕ, _-_, _+_, _<_}
+use Prim.Native.Nat.{_-_, _+_, _<_}
 use native.Mathlib.Omega.{arith}
 use lib.ListN.{getD}
 use Rattle.placement.specs.Columns.{room}
 use Rattle.placement.specs.Chains.{keys, nodes}
 use Rattle.placement.proofs.Sums.{less-next, entry-fits, entry-turn-fits, chain-place, place-fits, node-fits, key-place}
-use Rattle.placement.proofs.Chaining.{MadeBack, back-none, back-more, back-all}
+use Rattle.placement.proofs.Chaining.{MadeBack, made-back-none, made-back-more, made-back-all}
 use Rattle.placement.proofs.chains.chain_back.Statement.{statement}
 use Rattle.placement.proofs.chains.chain_back.Tie as tie
 
@@ -16,7 +16,7 @@ abbrev μ-loop : tie.MeasureT-loop
 μ-loop resources count backs₀ i₀ backs i = count - i
 
 loop-holds : tie.Need-loop-holds Inv-loop μ-loop
-loop-holds c = rw (c .pre .1) (back-none _ _)
+loop-holds c = rw (c .pre .1) (made-back-none _ _)
 
 -- the entry at hand
 entry-below : (c : tie.In-loop Inv-loop μ-loop) → c .before .loop .i < room
@@ -62,10 +62,10 @@ loop-less : tie.Need-loop-less Inv-loop μ-loop
 loop-less c = less-next _ _ (c .before .before .loop-test .taken)
 
 loop-again : tie.Need-loop-again Inv-loop μ-loop
-loop-again c = back-more (c .before .before .before .before .pre .0) (c .before .before .before .loop .inv) (c .before .before .loop-test .taken)
+loop-again c = made-back-more (c .before .before .before .before .pre .0) (c .before .before .before .loop .inv) (c .before .before .loop-test .taken)
 
 returns : tie.Need-returns Inv-loop μ-loop
-returns c = back-all (c .before .loop .inv) (c .loop-test .left)
+returns c = made-back-all (c .before .loop .inv) (c .loop-test .left)
 
 pub chain-back-spec : {M : Type 1} → statement M
 chain-back-spec =

@@ -1,11 +1,11 @@
 -- `placement::chains::chain_on` meets its contract: the entries from `left` on are chained.
-use Prim.Native.Nat.{ℕ, _-_, _+_, _<_}
+use Prim.Native.Nat.{_-_, _+_, _<_}
 use native.Mathlib.Omega.{arith}
 use lib.ListN.{getD}
 use Rattle.placement.specs.Columns.{room}
 use Rattle.placement.specs.Chains.{keys, nodes}
 use Rattle.placement.proofs.Sums.{entry-fits, chain-place, place-fits, node-fits, key-place}
-use Rattle.placement.proofs.Chaining.{MadeOn, on-none, on-down, on-all}
+use Rattle.placement.proofs.Chaining.{MadeOn, made-on-none, made-on-down, made-on-all}
 use Rattle.placement.proofs.chains.chain_on.Statement.{statement}
 use Rattle.placement.proofs.chains.chain_on.Tie as tie
 
@@ -16,7 +16,7 @@ abbrev μ-loop : tie.MeasureT-loop
 μ-loop resources count nexts₀ left₀ nexts left = left
 
 loop-holds : tie.Need-loop-holds Inv-loop μ-loop
-loop-holds c = rw (c .pre .1) (on-none _ _)
+loop-holds c = rw (c .pre .1) (made-on-none _ _)
 
 -- the entry at hand
 entry-there : (c : tie.In-loop Inv-loop μ-loop) → c .before .loop .left - 1 < c .before .before .args .count
@@ -65,10 +65,10 @@ loop-less : tie.Need-loop-less Inv-loop μ-loop
 loop-less c = omega (arith, c .before .before .loop-test .taken)
 
 loop-again : tie.Need-loop-again Inv-loop μ-loop
-loop-again c = on-down (c .before .before .before .before .pre .0) (c .before .before .before .loop .inv) (c .before .before .loop-test .taken)
+loop-again c = made-on-down (c .before .before .before .before .pre .0) (c .before .before .before .loop .inv) (c .before .before .loop-test .taken)
 
 returns : tie.Need-returns Inv-loop μ-loop
-returns c = on-all (c .before .loop .inv) (c .loop-test .left)
+returns c = made-on-all (c .before .loop .inv) (c .loop-test .left)
 
 pub chain-on-spec : {M : Type 1} → statement M
 chain-on-spec =

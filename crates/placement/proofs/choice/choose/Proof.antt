@@ -5,7 +5,7 @@ use native.Mathlib.Omega.{arith}
 use borrow.Author.Tests.{not-true, not-false}
 use Rattle.placement.proofs.Sums.{less-next, task-below, task-fits, machine-below, machine-fits, machine-turn-fits}
 use Rattle.placement.proofs.Chosen.{Chosen, chosen-none, chosen-unable, chosen-asks, chosen-late, chosen-stays, chosen-taken, chosen-all, run-at}
-use Rattle.placement.proofs.Chaining.{chained-same}
+use Rattle.placement.proofs.Chaining.{chained-kept}
 use Rattle.placement.proofs.choice.choose.Statement.{statement}
 use Rattle.placement.proofs.choice.choose.Tie as tie
 
@@ -65,7 +65,7 @@ attempt-requires c κs =
           (at .loop .inv)
           (c .before .before .before .before .before .if1 .taken)
           (c .before .before .before .if2 .left),
-      (chained-same (λ i h. at .loop .inv .columns .same .resources-same i (let within = pre .1 .within in omega arith)) (pre .1) (pre .1 .within), sym (run-at (start .args .t2) (start .args .task) (at .loop .m))),
+      (chained-kept (pre .1) (at .loop .inv .columns .same) (omega arith), sym (run-at (start .args .t2) (start .args .task) (at .loop .m))),
     )
 
 loop-less-2 : tie.Need-loop-less-2 Inv-loop μ-loop

@@ -7,13 +7,14 @@ use lib.ListN.{length}
 use borrow.Author.Needs.{needs}
 use Rattle.placement.proofs.Sums.{less-next, held-below, held-fits, held-turn-fits}
 use Rattle.placement.proofs.Mirror.{Filled, filled-none, filled-more}
-use Rattle.placement.proofs.Made.{Made, made-none, made-more, made-column}
+use Rattle.placement.specs.Columns.{ColumnOf}
+use Rattle.placement.proofs.Made.{made-none, made-more, made-fewer}
 use Rattle.placement.proofs.columns.fill.Statement.{statement}
 use Rattle.placement.proofs.columns.fill.Tie as tie
 
 abbrev Inv-loop : tie.InvT-loop
 Inv-loop count jobs₀ resources₀ starts₀ finishes₀ rows i₀ jobs resources starts finishes i =
-    Filled rows count resources starts finishes i × Made 0 (λ row. row .job) rows jobs i
+    Filled rows count resources starts finishes i × ColumnOf 0 (λ row. row .job) rows i jobs
 
 abbrev μ-loop : tie.MeasureT-loop
 μ-loop count jobs₀ resources₀ starts₀ finishes₀ rows i₀ jobs resources starts finishes i = count - i
@@ -65,7 +66,7 @@ returns c =
     let filled = at .loop .inv .0 in
     let all : at .loop .i ≡ at .before .args .count = omega arith in
     let made = at .loop .inv .1 in
-    (made-column made (omega arith), (filled .widths, rw (← all) (filled .mirrors)))
+    (made-fewer made (omega arith), (filled .widths, rw (← all) (filled .mirrors)))
 
 pub fill-spec : {M : Type 1} → statement M
 fill-spec =

@@ -1,12 +1,11 @@
 -- `placement::place::place_tasks` meets its contract: before each turn, what is left of the rules' placing starts from the rows booked so far.
-use mathlib.Core.Path.{_≡_, refl}
+use mathlib.Core.Path.{_≡_}
 use mathlib.Core.List.{List}
 use mathlib.Core.Option.{some}
 use Prim.Native.Nat.{_-_, _+_, _≤_, _<_}
 use native.Mathlib.Omega.{arith}
 use native.Mathlib.Numerals.{add-one}
 use lib.ListN.{take, replicate}
-use borrow.Author.Needs.{needs}
 use borrow.Author.Tests.{not-true, not-false}
 use Rattle.rules.specs.declared.Row.{Row}
 use Rattle.rules.specs.Words.{most-tasks, task-of}
@@ -16,7 +15,7 @@ use Rattle.placement.specs.Trials.{IsKeptOf}
 use Rattle.placement.specs.Placements.{AskPlace}
 use Rattle.placement.proofs.Sums.{less-next, task-below, task-fits, standing-fits, task-turn-fits, used-fits}
 use Rattle.placement.proofs.Placed.{Placing-so-far, so-far-none, so-far-more, turn-none, turn-late, all-turns, ask-order, released-first, turn-of, kept-machine, ask-choice, beside, ask-append, next-none, next-some}
-use Rattle.placement.proofs.Tasks.{length-mapped, Released, TurnOf, release-low, release-now, released-more}
+use Rattle.placement.proofs.Tasks.{Released, TurnOf, release-low, release-now, released-more}
 use Rattle.placement.proofs.Chaining.{held-chained}
 use Rattle.placement.proofs.place.place_tasks.Statement.{statement}
 use Rattle.placement.proofs.place.place_tasks.Tie as tie

@@ -1,7 +1,6 @@
 -- `placement::search::following` meets its contract.
 use Prim.Native.Nat.{_+_, _<_}
 use native.Mathlib.Omega.{arith}
-use mathlib.Core.Path.{_≡_, subst}
 use Rattle.placement.specs.Chains.{keys, nodes}
 use Rattle.placement.proofs.Sums.{chain-place, place-fits, node-fits}
 use Rattle.placement.proofs.Chaining.{next-at}

@@ -1,6 +1,5 @@
 -- `placement::search::least_free` meets its contract: no tick passed over is free, and the last pass moves nothing.
-use mathlib.Core.Path.{_≡_, refl, sym}
-use Prim.Native.Nat.{_≤_, _<_, _-_}
+use Prim.Native.Nat.{_<_, _-_}
 use native.Mathlib.Omega.{arith}
 use Rattle.placement.specs.Columns.{spans-of, tick-bound}
 use Rattle.placement.proofs.Passes.{Seeking, seeking-none, seeking-more, found-back, seeking-found, swept-bound, back-from, back-bound}

@@ -1,7 +1,5 @@
 -- `placement::search::next_of` meets its contract: none of those looked at is of the resource.
-use borrow.Author.Needs.{needs}
 use native.Mathlib.Omega.{arith}
-use mathlib.Core.Path.{_≡_, refl, sym, ap, _∙_}
 use Prim.Native.Nat.{_-_, _<_}
 use Rattle.placement.specs.Columns.{room}
 use Rattle.placement.proofs.Sums.{less-next, below-room, entry-fits, entry-turn-fits}

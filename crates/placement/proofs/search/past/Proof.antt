@@ -1,5 +1,5 @@
 -- `placement::search::past` meets its contract: each way out is one case of `beyond`.
-use mathlib.Core.Path.{_≡_, sym}
+use mathlib.Core.Path.{sym}
 use borrow.Author.Needs.{needs}
 use Rattle.placement.proofs.Passes.{beyond-later, beyond-earlier, beyond-met}
 use Rattle.placement.proofs.search.past.Statement.{statement}

@@ -1,9 +1,8 @@
 -- `placement::search::sweep` meets its contract: up to the entry i the tick is what a pass makes of it, and i is of the resource.
-use borrow.Author.Needs.{needs}
 use native.Mathlib.Omega.{arith}
-use mathlib.Core.Path.{_≡_, refl, sym, ap, _∙_, subst}
+use mathlib.Core.Path.{_≡_, sym, _∙_, subst}
 use native.Mathlib.Numerals.{add-one}
-use Prim.Native.Nat.{ℕ, suc, _+_, _-_, _≤_, _<_}
+use Prim.Native.Nat.{ℕ, suc, _+_, _-_, _<_}
 use lib.ListN.{getD}
 use Rattle.placement.specs.Columns.{room}
 use Rattle.placement.specs.Chains.{nodes}

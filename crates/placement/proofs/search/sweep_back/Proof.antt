@@ -1,8 +1,7 @@
 -- `placement::search::sweep_back` meets its contract: the first `left` entries are still to come, and the last of them is of the resource.
-use borrow.Author.Needs.{needs}
 use native.Mathlib.Omega.{arith}
-use mathlib.Core.Path.{_≡_, refl, sym, ap, _∙_, subst}
-use Prim.Native.Nat.{ℕ, suc, _+_, _-_, _≤_, _<_}
+use mathlib.Core.Path.{_≡_, sym, ap, _∙_, subst}
+use Prim.Native.Nat.{ℕ, suc, _-_, _<_}
 use lib.ListN.{getD}
 use Rattle.placement.specs.Columns.{spans-of, room}
 use Rattle.placement.specs.Passes.{swept-back}

@@ -6,7 +6,7 @@ use Rattle.rules.specs.Words.{most-messages}
 use Rattle.rules.specs.Bounds.{largest-cost}
 use Rattle.placement.proofs.Sums.{row-fits, count-fits, cost-fits}
 use Rattle.placement.proofs.Attempts.{attempt-searchable, attempt-there, ask-own, own-figures, attempt-made}
-use Rattle.placement.proofs.Chaining.{machine-known, chained-same}
+use Rattle.placement.proofs.Chaining.{machine-known, chained-kept}
 use Rattle.placement.proofs.trial.attempt.Statement.{statement}
 use Rattle.placement.proofs.trial.attempt.Tie as tie
 
@@ -17,9 +17,7 @@ least-free-requires : tie.Need-least-free-requires
 least-free-requires c κs =
     let found = c .before .before .before .try-messages .ensures in
     let pre = c .before .before .before .before .before .before .before .pre in
-    let chained = pre .1 .0 in
-    let still = chained-same (λ i h. found .same .resources-same i (let within = chained .within in omega arith)) chained (chained .within) in
-    (attempt-searchable (pre .0) found (pre .1 .1), (machine-known (attempt-there (pre .0) found (pre .1 .1)), still))
+    (attempt-searchable (pre .0) found (pre .1 .1), (machine-known (attempt-there (pre .0) found (pre .1 .1)), chained-kept (pre .1 .0) (found .same) (omega arith)))
 
 task-row-requires : tie.Need-task-row-requires
 task-row-requires c κs =

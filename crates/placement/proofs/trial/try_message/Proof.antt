@@ -1,5 +1,5 @@
 -- `placement::trial::try_message` meets its contract: the tick sought is the rules', and the row is made at it.
-use mathlib.Core.Path.{_≡_, ap, ap₂, _∙_}
+use mathlib.Core.Path.{ap, ap₂, _∙_}
 use native.Mathlib.Omega.{arith}
 use borrow.Author.Needs.{needs}
 use Rattle.rules.specs.Placing.{message-booking, least-free}

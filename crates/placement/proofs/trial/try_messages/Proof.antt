@@ -14,7 +14,7 @@ use Rattle.placement.proofs.Sums.{less-next, turn-below, turn-fits, mes
 use Rattle.placement.proofs.Tasks.{length-mapped}
 use Rattle.placement.proofs.Gathered.{Gathered, gathered-none, gathered-other-next, gathered-without-next, gathered-with-next, gathered-all}
 use Rattle.placement.proofs.Gathered.{sender-listed, room-left, ask-input, input-fits}
-use Rattle.placement.proofs.Chaining.{chained-same}
+use Rattle.placement.proofs.Chaining.{chained-kept}
 use Rattle.placement.proofs.trial.try_messages.Statement.{statement}
 use Rattle.placement.proofs.trial.try_messages.Tie as tie
 
@@ -117,10 +117,9 @@ try-message-requires c κs =
     let across = c .before .before .before in
     let turn = across .before .before .before .before .before .before .before .before in
     let at = turn .before in
-    let start = at .before .before in
-    let within = start .pre .1 .within in (
+    let start = at .before .before in (
       ask-input (start .pre .0) (at .loop .inv) (turn .loop-test .taken) (all-messages start) none (across .before .before .before .before .before .if1 .left) (crossing across),
-      chained-same (λ i h. at .loop .inv .working .same .resources-same i (omega arith)) (start .pre .1) (omega arith),
+      chained-kept (start .pre .1) (at .loop .inv .working .same) (omega arith),
     )
 
 add-put : tie.Need-add-put Inv-loop μ-loop

@@ -1,5 +1,5 @@
 -- `Register::apply` meets its contract: each arm is one of the calls.
-use mathlib.Core.Path.{_≡_, sym, subst}
+use mathlib.Core.Path.{sym, subst}
 use borrow.Author.Needs.{needs}
 use Rattle.reservation.specs.Calls.{Steps}
 use Rattle.reservation.specs.Chains.{kind-of}

@@ -2,15 +2,16 @@
 use mathlib.Core.Path.{refl}
 use Prim.Native.Nat.{_-_, _<_}
 use native.Mathlib.Numerals.{add-one}
-use Rattle.placement.proofs.Sums.{less-next}
-use Rattle.reservation.proofs.Sums.{slot-below, slot-fits, slot-word-fits, slot-turn-fits}
-use Rattle.placement.proofs.Made.{Made, made-none, made-more, made-column}
+use Rattle.placement.proofs.Sums.{less-next, held-below, held-fits, held-turn-fits}
+use Rattle.reservation.proofs.Sums.{slot-word-fits}
+use Rattle.placement.specs.Columns.{ColumnOf}
+use Rattle.placement.proofs.Made.{made-none, made-more, made-fewer}
 use Rattle.reservation.proofs.removal.figures_of.Statement.{statement}
 use Rattle.reservation.proofs.removal.figures_of.Tie as tie
 
 abbrev Inv-loop : tie.InvT-loop
 Inv-loop count rows figures₀ i₀ figures i =
-    Made 0 (λ row. row .job) rows (figures .jobs) i × Made 0 (λ row. row .start) rows (figures .starts) i × Made 0 (λ row. row .finish) rows (figures .finishes) i
+    ColumnOf 0 (λ row. row .job) rows i (figures .jobs) × ColumnOf 0 (λ row. row .start) rows i (figures .starts) × ColumnOf 0 (λ row. row .finish) rows i (figures .finishes)
 
 abbrev μ-loop : tie.MeasureT-loop
 μ-loop count rows figures₀ i₀ figures i = count - i
@@ -19,10 +20,10 @@ loop-holds : tie.Need-loop-holds Inv-loop μ-loop
 loop-holds c = (made-none 0 _ _ _ refl, made-none 0 _ _ _ refl, made-none 0 _ _ _ refl)
 
 row-below : (c : tie.In-loop Inv-loop μ-loop) → c .before .loop .i < 256
-row-below c = slot-below _ _ (c .loop-test .taken) (c .before .before .pre)
+row-below c = held-below _ _ (c .loop-test .taken) (c .before .before .pre)
 
 mul-figures : tie.Need-mul-figures Inv-loop μ-loop
-mul-figures c = slot-fits _ (row-below c)
+mul-figures c = held-fits _ (row-below c)
 
 element-copy-out-figures : tie.Need-element-copy-out-figures Inv-loop μ-loop
 element-copy-out-figures c = row-below c
@@ -34,7 +35,7 @@ element-write-figures : tie.Need-element-write-figures Inv-loop μ-loop
 element-write-figures c = row-below c
 
 mul-figures-3 : tie.Need-mul-figures-3 Inv-loop μ-loop
-mul-figures-3 c = slot-fits _ (row-below c)
+mul-figures-3 c = held-fits _ (row-below c)
 
 element-copy-out-figures-2 : tie.Need-element-copy-out-figures-2 Inv-loop μ-loop
 element-copy-out-figures-2 c = row-below c
@@ -46,7 +47,7 @@ element-write-figures-2 : tie.Need-element-write-figures-2 Inv-loop μ-loop
 element-write-figures-2 c = row-below c
 
 mul-figures-5 : tie.Need-mul-figures-5 Inv-loop μ-loop
-mul-figures-5 c = slot-fits _ (row-below c)
+mul-figures-5 c = held-fits _ (row-below c)
 
 element-copy-out-figures-3 : tie.Need-element-copy-out-figures-3 Inv-loop μ-loop
 element-copy-out-figures-3 c = row-below c
@@ -58,7 +59,7 @@ element-write-figures-3 : tie.Need-element-write-figures-3 Inv-loop μ-loop
 element-write-figures-3 c = row-below c
 
 add-i : tie.Need-add-i Inv-loop μ-loop
-add-i c = slot-turn-fits _ (row-below c)
+add-i c = held-turn-fits _ (row-below c)
 
 loop-less : tie.Need-loop-less Inv-loop μ-loop
 loop-less c = less-next _ _ (c .loop-test .taken)
@@ -73,7 +74,7 @@ returns : tie.Need-returns Inv-loop μ-loop
 returns c =
     let made = c .before .loop .inv in
     let all = c .loop-test .left in
-    (made-column (made .0) all, (made-column (made .1) all, made-column (made .2) all))
+    (made-fewer (made .0) all, (made-fewer (made .1) all, made-fewer (made .2) all))
 
 pub figures-of-spec : {M : Type 1} → statement M
 figures-of-spec = tie.close (tie.spec Inv-loop μ-loop loop-holds mul-figures element-copy-out-figures mul-figures-2 element-write-figures mul-figures-3 element-copy-out-figures-2 mul-figures-4 element-write-figures-2 mul-figures-5 element-copy-out-figures-3 mul-figures-6 element-write-figures-3 add-i loop-less loop-again returns)

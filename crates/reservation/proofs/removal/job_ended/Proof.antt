@@ -3,8 +3,8 @@ use Prim.Native.Nat.{_-_, _<_}
 use native.Mathlib.Numerals.{add-one}
 use lib.Dec.{ltb}
 use borrow.Author.Tests.{lt-ltb, le-ltb}
-use Rattle.placement.proofs.Sums.{less-next}
-use Rattle.reservation.proofs.Sums.{slot-below, slot-word-fits, slot-turn-fits}
+use Rattle.placement.proofs.Sums.{less-next, held-below, held-turn-fits}
+use Rattle.reservation.proofs.Sums.{slot-word-fits}
 use Rattle.reservation.proofs.Scans.{NoneFound, found-none, found-other, found-fails, found-one, found-all, found-ended}
 use Rattle.reservation.proofs.removal.job_ended.Statement.{statement}
 use Rattle.reservation.proofs.removal.job_ended.Tie as tie
@@ -19,7 +19,7 @@ loop-holds : tie.Need-loop-holds Inv-loop μ-loop
 loop-holds c = found-none _ _ _ _ _ _
 
 row-below : (c : tie.In-loop Inv-loop μ-loop) → c .before .loop .i < 256
-row-below c = slot-below _ _ (c .loop-test .taken) (c .before .before .pre)
+row-below c = held-below _ _ (c .loop-test .taken) (c .before .before .pre)
 
 mul-carried : tie.Need-mul-carried Inv-loop μ-loop
 mul-carried c = slot-word-fits _ (row-below c)
@@ -34,7 +34,7 @@ element-copy-out-finish : tie.Need-element-copy-out-finish Inv-loop μ-loop
 element-copy-out-finish c = row-below (c .before)
 
 add-i : tie.Need-add-i Inv-loop μ-loop
-add-i c = slot-turn-fits _ (row-below (c .before .before))
+add-i c = held-turn-fits _ (row-below (c .before .before))
 
 loop-less : tie.Need-loop-less Inv-loop μ-loop
 loop-less c = less-next _ _ (c .before .before .before .loop-test .taken)

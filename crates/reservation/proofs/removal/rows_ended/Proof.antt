@@ -4,8 +4,8 @@ use mathlib.Core.Logic.{⊎-elim}
 use Prim.Native.Nat.{_-_, _<_}
 use native.Mathlib.Omega.{arith}
 use native.Mathlib.Numerals.{add-one}
-use Rattle.placement.proofs.Sums.{less-next}
-use Rattle.reservation.proofs.Sums.{slot-below, slot-word-fits, slot-turn-fits}
+use Rattle.placement.proofs.Sums.{less-next, held-below, held-turn-fits}
+use Rattle.reservation.proofs.Sums.{slot-word-fits}
 use borrow.Author.Tests.{lt-ltb}
 use Rattle.reservation.proofs.Scans.{found-one, found-ended}
 use Rattle.reservation.proofs.Removed.{Ending, ending-none, ending-more, ending-all}
@@ -28,7 +28,7 @@ loop-holds : tie.Need-loop-holds Inv-loop μ-loop
 loop-holds c = ending-none _ refl (c .job-ended .ensures)
 
 row-below : (c : tie.In-loop Inv-loop μ-loop) → c .before .loop .i < 256
-row-below c = slot-below _ _ (c .loop-test .taken) (c .before .before .before .before .pre)
+row-below c = held-below _ _ (c .loop-test .taken) (c .before .before .before .before .pre)
 
 mul-job : tie.Need-mul-job Inv-loop μ-loop
 mul-job c = slot-word-fits _ (row-below c)
@@ -52,7 +52,7 @@ array-write-leaves : tie.Need-array-write-leaves Inv-loop μ-loop
 array-write-leaves c = row-below (c .before .before .before)
 
 add-i : tie.Need-add-i Inv-loop μ-loop
-add-i c = slot-turn-fits _ (row-below (c .before .before .before))
+add-i c = held-turn-fits _ (row-below (c .before .before .before))
 
 loop-less : tie.Need-loop-less Inv-loop μ-loop
 loop-less c = less-next _ _ (c .before .before .before .loop-test .taken)

@@ -7,13 +7,13 @@ use native.Mathlib.Numerals.{add-one}
 use lib.Dec.{eqb}
 use Rattle.rules.specs.Words.{of-job}
 use Rattle.reservation.specs.Calls.{WithJobs}
-use Rattle.placement.proofs.Made.{Made, made-none, made-more}
-use Rattle.reservation.proofs.Removed.{made-mask}
+use Rattle.placement.specs.Columns.{ColumnOf}
+use Rattle.placement.proofs.Made.{made-none, made-more, made-fewer}
 use Rattle.reservation.proofs.removal.rows_of.Statement.{statement}
 use Rattle.reservation.proofs.removal.rows_of.Tie as tie
 
 abbrev Inv-loop : tie.InvT-loop
-Inv-loop jobs count number leaves₀ i₀ leaves i = WithJobs jobs count (λ rows. Made false (of-job number) rows leaves i)
+Inv-loop jobs count number leaves₀ i₀ leaves i = WithJobs jobs count (λ rows. ColumnOf false (of-job number) rows i leaves)
 
 abbrev μ-loop : tie.MeasureT-loop
 μ-loop jobs count number leaves₀ i₀ leaves i = count - i
@@ -45,7 +45,7 @@ loop-again c =
     (made-more (at .loop .inv rows jobs l) (omega arith) _ (ap (λ x. eqb x (at .before .args .number)) (jobs .is (at .loop .i) (c .before .loop-test .taken))))
 
 returns : tie.Need-returns Inv-loop μ-loop
-returns c = λ rows jobs l. made-mask (c .before .loop .inv rows jobs l) (c .loop-test .left)
+returns c = λ rows jobs l. made-fewer (c .before .loop .inv rows jobs l) (c .loop-test .left)
 
 pub rows-of-spec : {M : Type 1} → statement M
 rows-of-spec = tie.close (tie.spec Inv-loop μ-loop loop-holds mul-job element-copy-out-job array-write-leaves add-i loop-less loop-again returns)

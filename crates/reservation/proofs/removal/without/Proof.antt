@@ -1,8 +1,8 @@
 -- `reservation::removal::without` meets its contract: after i rows those that stay stand at the front, and the total is theirs and that of the rows left.
 use Prim.Native.Nat.{_-_, _<_}
 use native.Mathlib.Numerals.{add-one}
-use Rattle.placement.proofs.Sums.{less-next}
-use Rattle.reservation.proofs.Sums.{slot-below, slot-kept, slot-fits, slot-turn-fits}
+use Rattle.placement.proofs.Sums.{less-next, held-below, held-fits, held-turn-fits}
+use Rattle.reservation.proofs.Sums.{slot-kept}
 use Rattle.reservation.proofs.Removed.{Removing, removing-none, cost-there, removing-gone, removing-stays, removing-all}
 use Rattle.reservation.proofs.removal.without.Statement.{statement}
 use Rattle.reservation.proofs.removal.without.Tie as tie
@@ -21,13 +21,13 @@ loop-holds : tie.Need-loop-holds Inv-loop μ-loop
 loop-holds c = rw (c .blank .ensures) (removing-none (c .before .pre))
 
 row-below : (c : tie.In-loop Inv-loop μ-loop) → c .before .loop .i < 256
-row-below c = slot-below _ _ (c .loop-test .taken) (c .before .before .before .pre .count-at-most)
+row-below c = held-below _ _ (c .loop-test .taken) (c .before .before .before .pre .count-at-most)
 
 kept-below : (c : tie.In-loop Inv-loop μ-loop) → c .before .loop .kept < 256
 kept-below c = slot-kept _ _ _ (c .before .loop .inv .kept-at-most) (c .loop-test .taken) (c .before .before .before .pre .count-at-most)
 
 mul-row : tie.Need-mul-row Inv-loop μ-loop
-mul-row c = slot-fits _ (row-below c)
+mul-row c = held-fits _ (row-below c)
 
 element-copy-out-row : tie.Need-element-copy-out-row Inv-loop μ-loop
 element-copy-out-row c = row-below c
@@ -36,7 +36,7 @@ array-read-gone : tie.Need-array-read-gone Inv-loop μ-loop
 array-read-gone c = row-below (c .before)
 
 add-i : tie.Need-add-i Inv-loop μ-loop
-add-i c = slot-turn-fits _ (row-below (c .before))
+add-i c = held-turn-fits _ (row-below (c .before))
 
 sub-total : tie.Need-sub-total Inv-loop μ-loop
 sub-total c =
@@ -52,13 +52,13 @@ loop-again c =
     rw (add-one (at .loop .i)) (removing-gone (at .before .before .pre) (at .loop .inv) (c .before .before .before .loop-test .taken) (c .before .if1 .taken))
 
 mul-rows : tie.Need-mul-rows Inv-loop μ-loop
-mul-rows c = slot-fits _ (kept-below (c .before .before))
+mul-rows c = held-fits _ (kept-below (c .before .before))
 
 array-set-from-rows : tie.Need-array-set-from-rows Inv-loop μ-loop
 array-set-from-rows c = kept-below (c .before .before)
 
 add-kept : tie.Need-add-kept Inv-loop μ-loop
-add-kept c = slot-turn-fits _ (kept-below (c .before .before))
+add-kept c = held-turn-fits _ (kept-below (c .before .before))
 
 loop-less-2 : tie.Need-loop-less-2 Inv-loop μ-loop
 loop-less-2 c = less-next _ _ (c .before .before .loop-test .taken)

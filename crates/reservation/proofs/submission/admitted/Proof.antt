@@ -1,10 +1,11 @@
 -- `reservation::submission::admitted` meets its contract: after i rows the slots hold the held rows and those.
-use mathlib.Core.Path.{_≡_, refl}
+use mathlib.Core.Path.{refl}
 use Prim.Native.Nat.{_-_, _+_, _<_}
 use native.Mathlib.Omega.{arith}
 use native.Mathlib.Numerals.{add-one}
-use Rattle.placement.proofs.Sums.{less-next}
-use Rattle.reservation.proofs.Sums.{own-below, own-fits, own-turn-fits, behind-below, behind-fits, slot-fits, rows-fit}
+use Rattle.rules.specs.Words.{row-limit}
+use Rattle.placement.proofs.Sums.{less-next, held-fits, own-row-fits, behind-below}
+use Rattle.reservation.proofs.Sums.{own-below, own-turn-fits, behind-fits, rows-fit}
 use Rattle.reservation.proofs.Admission.{Filling, filling-none, filling-more, total-fits, filled}
 use Rattle.reservation.proofs.submission.admitted.Statement.{statement}
 use Rattle.reservation.proofs.submission.admitted.Tie as tie
@@ -22,10 +23,10 @@ row-below : (c : tie.In-loop Inv-loop μ-loop) → c .before .loop .i < 48
 row-below c = own-below _ _ (c .loop-test .taken) (c .before .before .before .pre .found-at-most)
 
 slot-at : (c : tie.In-loop Inv-loop μ-loop) → c .before .before .before .args .register .count + c .before .loop .i < 256
-slot-at c = behind-below _ _ _ (c .loop-test .taken) (c .before .before .before .pre .fits)
+slot-at c = behind-below _ _ _ row-limit (c .loop-test .taken) (c .before .before .before .pre .fits)
 
 mul-row : tie.Need-mul-row Inv-loop μ-loop
-mul-row c = own-fits _ (row-below c)
+mul-row c = own-row-fits _ (row-below c)
 
 element-copy-out-row : tie.Need-element-copy-out-row Inv-loop μ-loop
 element-copy-out-row c = row-below c
@@ -34,7 +35,7 @@ add-rows : tie.Need-add-rows Inv-loop μ-loop
 add-rows c = behind-fits _ (slot-at (c .before))
 
 mul-rows : tie.Need-mul-rows Inv-loop μ-loop
-mul-rows c = slot-fits _ (slot-at (c .before))
+mul-rows c = held-fits _ (slot-at (c .before))
 
 array-set-from-rows : tie.Need-array-set-from-rows Inv-loop μ-loop
 array-set-from-rows c = slot-at (c .before)

@@ -1,6 +1,5 @@
 -- `reservation::submission::early` meets its contract: each way out is the first test that refuses.
-use mathlib.Core.Path.{_≡_, refl, sym, ap, _∙_}
-use native.Mathlib.Omega.{arith}
+use mathlib.Core.Path.{sym, _∙_}
 use borrow.Author.Needs.{needs}
 use Rattle.reservation.proofs.Stepped.{early-0, early-1, early-2, early-3, early-4}
 use Rattle.reservation.proofs.submission.early.Statement.{statement}

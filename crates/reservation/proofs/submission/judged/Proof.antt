@@ -1,7 +1,8 @@
 -- `reservation::submission::judged` meets its contract: the first test that refuses answers, and else what placing found is settled.
 use mathlib.Core.Path.{_≡_, refl, sym, _∙_}
+use mathlib.Core.Bool.{false}
 use Rattle.rules.specs.Words.{view}
-use Rattle.placement.specs.Placements.{AskPlace}
+use Rattle.placement.specs.Placements.{AskPlace, PlacementIs}
 use Rattle.placement.proofs.Placed.{ask-fill}
 use Rattle.reservation.specs.Registers.{state-of}
 use Rattle.reservation.proofs.Stepped.{judges-refused, submit-early, submit-5, submit-6, ask-place, judges-settled}
@@ -19,34 +20,54 @@ returns c =
     let valid = c .before .before .before .before .pre in
     judges-refused valid (submit-early valid (c .before .before .early .ensures) (c .before .if1 .taken)) _ (c .refused .ensures)
 
--- what placing asks, once refusals 1 to 4 are passed
-ask-at : (c : tie.Else1) → let start = c .before .before .before in AskPlace (start .args .register .setup) (start .args .register .clock) (start .args .register .rows) (start .args .register .count) (start .args .job)
-ask-at c = ask-place (c .before .before .before .pre) (c .before .early .ensures) (c .if1 .left)
+-- Refusals 1 to 4 are passed here; what follows looks back to this place.
+
+abbrev start : tie.Else1 → tie.Start
+start c = c .before .before .before
+
+-- what placing asks
+ask-at : (c : tie.Else1) → let r = start c .args .register in AskPlace (r .setup) (r .clock) (r .rows) (r .count) (start c .args .job)
+ask-at c = ask-place (start c .pre) (c .before .early .ensures) (c .if1 .left)
 
 fill-requires : tie.Need-fill-requires
 fill-requires c κs =
-    let start = c .before .before .before .before .before .before .before .before in
-    ask-fill (start .args .register .setup) (start .args .register .clock) (start .args .register .rows) (start .args .register .count) (start .args .job) (ask-at (c .before .before .before .before .before)) (start .pre .long) refl (record { resources-long = refl; starts-long = refl; finishes-long = refl })
+    let at = c .before .before .before .before .before in
+    let r = start at .args .register in
+    ask-fill (r .setup) (r .clock) (r .rows) (r .count) (start at .args .job) (ask-at at) (start at .pre .long) refl (record { resources-long = refl; starts-long = refl; finishes-long = refl })
+
+abbrev passed : tie.After-fill → tie.Else1
+passed c = c .before .before .before .before .before .before
 
 is-held-requires : tie.Need-is-held-requires
-is-held-requires c κs = c .before .before .before .before .before .before .before .before .before .before .pre .count-at-most
+is-held-requires c κs = start (passed (c .before)) .pre .count-at-most
 
 -- the test is the rules'
-held-at : (c : tie.After-is-held) → let start = c .before .before .before .before .before .before .before .before .before .before .before in c .is-held .result ≡ view (state-of (start .args .register)) .held (start .args .job .number)
-held-at c = c .is-held .ensures _ (c .before .before .fill .ensures .0) (c .before .before .before .before .before .before .before .before .before .before .before .pre .long)
+held-at : (c : tie.After-is-held) → let at = start (passed (c .before .before)) in c .is-held .result ≡ view (state-of (at .args .register)) .held (at .args .job .number)
+held-at c = c .is-held .ensures _ (c .before .before .fill .ensures .0) (start (passed (c .before .before)) .pre .long)
 
 refused-requires-2 : tie.Need-refused-requires-2
 refused-requires-2 c κs = tt
 
 returns-2 : tie.Need-returns-2
 returns-2 c =
-    let valid = c .before .before .before .before .before .before .before .before .before .before .before .before .before .pre in
-    judges-refused valid (submit-5 valid (c .before .before .before .before .before .before .before .before .before .before .before .early .ensures) (c .before .before .before .before .before .before .before .before .before .before .if1 .left) (sym (held-at (c .before .before)) ∙ c .before .if2 .taken)) _ (c .refused2 .ensures)
+    let tested = c .before .before in
+    let at = passed (tested .before .before) in
+    let valid = start at .pre in
+    judges-refused valid (submit-5 valid (at .before .early .ensures) (at .if1 .left) (sym (held-at tested) ∙ c .before .if2 .taken)) _ (c .refused2 .ensures)
+
+-- Refusal 5 is passed here.
+
+abbrev filled : tie.Else2 → tie.After-fill
+filled c = c .before .before .before
+
+free-at : (c : tie.Else2) → let at = start (passed (filled c)) in view (state-of (at .args .register)) .held (at .args .job .number) ≡ false
+free-at c = sym (held-at (c .before)) ∙ c .if2 .left
 
 first-infeasible-requires : tie.Need-first-infeasible-requires
 first-infeasible-requires c κs =
-    let valid = c .before .before .before .before .before .before .before .before .before .before .before .before .pre in
-    let range = c .before .before .before .before .before .before .before .before .before .before .early .ensures .in-range (c .before .before .before .before .before .before .before .before .before .if1 .left) in
+    let at = passed (filled c) in
+    let valid = start at .pre in
+    let range = at .before .early .ensures .in-range (at .if1 .left) in
     record { figures = record { room = valid .sound .room; counts = range .counts }; in-range = range .figures; clock-at-most = valid .bounded .clock }
 
 refused-requires-3 : tie.Need-refused-requires-3
@@ -54,34 +75,49 @@ refused-requires-3 c κs = tt
 
 returns-3 : tie.Need-returns-3
 returns-3 c =
-    let valid = c .before .before .before .before .before .before .before .before .before .before .before .before .before .before .before .pre in
+    let tested = c .before .before in
+    let at = passed (filled (tested .before)) in
+    let valid = start at .pre in
     judges-refused
     valid
-    (submit-6 valid (c .before .before .before .before .before .before .before .before .before .before .before .before .before .early .ensures) (c .before .before .before .before .before .before .before .before .before .before .before .before .if1 .left) (sym (held-at (c .before .before .before .before)) ∙ c .before .before .before .if2 .left) _ (c .before .before .first-infeasible .ensures) (c .before .if3 .taken))
+    (submit-6 valid (at .before .early .ensures) (at .if1 .left) (free-at (tested .before)) _ (tested .first-infeasible .ensures) (c .before .if3 .taken))
     _
     (c .refused3 .ensures)
 
+-- Refusal 6 is passed, and the rows are placed.
+
+abbrev feasible : tie.After-finishes2 → tie.Else3
+feasible c = c .before .before .before
+
+abbrev free : tie.After-finishes2 → tie.Else2
+free c = feasible c .before .before
+
 place-requires : tie.Need-place-requires
 place-requires c κs =
-    let filled = c .before .before .before .before .before .before .before .before .fill .ensures in
-    record { held = c .before .before .before .before .before .before .before .before .before .before .before .before .before .before .before .before .before .args .register .rows; ask = ask-at (c .before .before .before .before .before .before .before .before .before .before .before .before .before .before); widths = filled .1 .0; mirrors = filled .1 .1 }
+    let columns = filled (free c) in
+    let at = passed columns in
+    record { held = start at .args .register .rows; ask = ask-at at; widths = columns .fill .ensures .1 .0; mirrors = columns .fill .ensures .1 .1 }
+
+-- what placing found is what the rules place
+found-at : (c : tie.After-place) → let at = start (passed (filled (free (c .before)))) in let r = at .args .register in PlacementIs (r .setup) (r .clock) (r .rows) (r .count) (at .args .job) (c .place .result)
+found-at c = let columns = filled (free (c .before)) in c .place .ensures _ (ask-at (passed columns)) (columns .fill .ensures .1 .1)
 
 settled-requires : tie.Need-settled-requires
 settled-requires c κs =
-    let filled = c .before .before .before .before .before .before .before .before .before .fill .ensures in
-    record { count-at-most = c .before .before .before .before .before .before .before .before .before .before .before .before .before .before .before .before .before .before .pre .count-at-most; found-at-most = c .place .ensures _ (ask-at (c .before .before .before .before .before .before .before .before .before .before .before .before .before .before .before)) (filled .1 .1) .count-at-most }
+    record { count-at-most = start (passed (filled (free (c .before)))) .pre .count-at-most; found-at-most = found-at c .count-at-most }
 
 returns-4 : tie.Need-returns-4
 returns-4 c =
-    let filled = c .before .before .before .before .before .before .before .before .before .before .fill .ensures in
+    let placed = c .before .before in
+    let at = passed (filled (free placed)) in
     judges-settled
-    (c .before .before .before .before .before .before .before .before .before .before .before .before .before .before .before .before .before .before .before .pre)
-    (c .before .before .before .before .before .before .before .before .before .before .before .before .before .before .before .before .before .early .ensures)
-    (c .before .before .before .before .before .before .before .before .before .before .before .before .before .before .before .before .if1 .left)
-    (sym (held-at (c .before .before .before .before .before .before .before .before)) ∙ c .before .before .before .before .before .before .before .if2 .left)
-    (c .before .before .before .before .before .before .first-infeasible .ensures)
-    (c .before .before .before .before .before .if3 .left)
-    (c .before .place .ensures _ (ask-at (c .before .before .before .before .before .before .before .before .before .before .before .before .before .before .before .before)) (filled .1 .1))
+    (start at .pre)
+    (at .before .early .ensures)
+    (at .if1 .left)
+    (free-at (free placed))
+    (feasible placed .before .first-infeasible .ensures)
+    (feasible placed .if3 .left)
+    (found-at (c .before))
     _
     (c .settled .ensures)
 

@@ -1,5 +1,5 @@
 -- `reservation::submission::settled` meets its contract.
-use mathlib.Core.Path.{_≡_, refl}
+use mathlib.Core.Path.{refl}
 use native.Mathlib.Omega.{arith}
 use Rattle.reservation.proofs.submission.settled.Statement.{statement}
 use Rattle.reservation.proofs.submission.settled.Tie as tie

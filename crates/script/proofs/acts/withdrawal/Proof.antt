@@ -1,5 +1,5 @@
 -- `script::acts::withdrawal` meets its contract.
-use mathlib.Core.Path.{_≡_, refl, sym, ap, _∙_}
+use mathlib.Core.Path.{_≡_, sym, ap, _∙_}
 use mathlib.Core.List.{List}
 use Prim.Native.Nat.{ℕ}
 use native.Mathlib.Omega.{arith}
@@ -7,7 +7,6 @@ use lib.ListN.{length, drop, length-drop}
 use borrow.Author.Needs.{needs}
 use Rattle.rules.specs.Refusals.{withdraws}
 use Rattle.reservation.specs.declared.calls.Kind.the-variants.{Withdraw}
-use Rattle.jobtext.specs.declared.line.Line.{Line}
 use Rattle.jobtext.specs.Lines.{any-figure, line}
 use Rattle.jobtext.specs.JobText.{job-key}
 use Rattle.jobtext.specs.Answers.{line-said}

@@ -1,12 +1,11 @@
 -- `script::listing::put_heading` meets its contract: three fields, one after the other.
-use mathlib.Core.Path.{_≡_}
 use mathlib.Core.List.{List, _++_}
 use Prim.Native.Nat.{ℕ, _+_}
 use native.Mathlib.Omega.{arith}
 use borrow.Author.Needs.{needs}
 use Rattle.jobtext.specs.Put.{field}
 use Rattle.script.specs.Listing.{clock-key, total-key, held-key}
-use Rattle.script.proofs.Fields.{Within, first-field, within-field, within-room, at-most}
+use Rattle.script.proofs.Fields.{Within, first-field, within-field, at-most}
 use Rattle.script.proofs.listing.put_heading.Statement.{statement}
 use Rattle.script.proofs.listing.put_heading.Tie as tie
 

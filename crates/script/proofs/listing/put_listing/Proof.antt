@@ -1,6 +1,5 @@
 -- `script::listing::put_listing` meets its contract: the heading, then the rows.
 use native.Mathlib.Omega.{arith}
-use mathlib.Core.Path.{_≡_, refl, sym, ap, _∙_}
 use borrow.Author.Needs.{needs}
 use Rattle.script.proofs.Listed.{rows-asked, whole-listing}
 use Rattle.script.proofs.listing.put_listing.Statement.{statement}

@@ -1,9 +1,7 @@
 -- `script::listing::put_rows` meets its contract.
-use borrow.Author.Needs.{needs}
 use native.Mathlib.Omega.{arith}
-use mathlib.Core.Path.{_≡_, refl, sym, ap, _∙_}
-use Prim.Native.Nat.{ℕ, _+_, _-_, _%_, _≤_, _<_}
-use lib.ListN.{length, getD}
+use Prim.Native.Nat.{_-_}
+use lib.ListN.{length}
 use Rattle.script.proofs.Listed.{RowsListed, rows-none, row-room, rows-more, rows-all}
 use Rattle.script.proofs.listing.put_rows.Statement.{statement}
 use Rattle.script.proofs.listing.put_rows.Tie as tie

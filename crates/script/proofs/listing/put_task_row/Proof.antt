@@ -1,5 +1,4 @@
 -- `script::listing::put_task_row` meets its contract: five fields, one after the other.
-use mathlib.Core.Path.{_≡_}
 use mathlib.Core.List.{List, _++_}
 use Prim.Native.Nat.{ℕ, _+_}
 use native.Mathlib.Omega.{arith}
@@ -8,7 +7,7 @@ use Rattle.jobtext.specs.Put.{field}
 use Rattle.jobtext.specs.JobText.{job-key}
 use Rattle.script.specs.Replies.{task-key}
 use Rattle.script.specs.Listing.{machine-key, start-key, finish-key}
-use Rattle.script.proofs.Fields.{Within, first-field, within-field, within-room}
+use Rattle.script.proofs.Fields.{Within, first-field, within-field}
 use Rattle.script.proofs.listing.put_task_row.Statement.{statement}
 use Rattle.script.proofs.listing.put_task_row.Tie as tie
 

@@ -1,5 +1,4 @@
 -- `script::replies::put_submitted` meets its contract: four fields, one after the other.
-use mathlib.Core.Path.{_≡_}
 use mathlib.Core.List.{List, _++_}
 use Prim.Native.Nat.{ℕ, _+_}
 use native.Mathlib.Omega.{arith}

@@ -8,7 +8,7 @@ use reservation::calls::Call;
 use reservation::calls::Kind;
 use rules::Job;
 ghost use Rattle.reservation.specs.Registers.{Valid};
-ghost use Rattle.booking.specs.Kept.{Kept};
+ghost use Rattle.booking.specs.Untouched.{Untouched};
 
 // A fresh register has clock 0, total 0 and no rows.
 pub fn fresh() -> Register
@@ -23,7 +23,7 @@ pub fn fresh() -> Register
 
 // A refusal leaves the clock, the total and the count as they were.
 fn check_refused(before: Register, reply: Reply)
-    requires { ⌜ Kept before reply ⌝ }
+    requires { ⌜ Untouched before reply ⌝ }
 {
     if reply.answer.number == 0 {
         return;

@@ -327,8 +327,8 @@ module _ (s : Setup) (clock : ℕ) (held : List Row) (count : ℕ) (j : Job) (as
       unfolding machine-of try
       kept-machine =
           let same : m ≡ is-kept .0 = ap (λ x. machine-of (x .own .holder)) (is-kept .1) in
-          let good = is-kept .2 .is-good in
-          rw same (record { first = good .first; last = good .last })
+          let on = is-kept .2 .is-good .is-machine in
+          rw same (record { first = on .first; last = on .last })
 
       pub in-bounds-more : InBounds s j range (ask .sound) (new ++ trial-rows trial)
       in-bounds-more =

@@ -2,7 +2,7 @@
 use mathlib.Core.Path.{_≡_, refl, ap, _∙_}
 use mathlib.Core.Bool.{true, false}
 use mathlib.Core.List.{List, [], _∷_}
-use mathlib.Core.Option.{Option, none, some}
+use mathlib.Core.Option.{none, some}
 use Prim.Native.Nat.{ℕ, _+_, _<_, _≤_}
 use lib.Dec.{ltb}
 use lib.ListN.{length}
@@ -10,37 +10,15 @@ use borrow.Author.Tests.{lt-ltb, eq-eqb}
 use Rattle.rules.specs.declared.Row.{Row}
 use Rattle.rules.specs.declared.Job.{Job}
 use Rattle.rules.specs.declared.Setup.{Setup}
-use Rattle.rules.specs.declared.Answer.{Answer}
 use Rattle.rules.specs.Words.{State, View, view, row-limit}
-use Rattle.rules.specs.Placing.{costs, booked, late}
+use Rattle.rules.specs.Placing.{booked, late}
 use Rattle.rules.specs.Withdrawing.{admit}
-use Rattle.rules.specs.Refusals.{Test, refuse-if, refusal, judged, first-infeasible, missed, found, placing, submit-tests, submit-answer, submits, settle, step}
-use Rattle.rules.specs.Demands.{InRange, NoRefusal, end, passes}
-use Rattle.rules.proofs.Demand1.{submit-answered}
-use Rattle.rules.proofs.Admitted.{Admitted, admits}
+use Rattle.rules.specs.Refusals.{refuse-if, refusal, admission, first-infeasible, missed, found, placing, submit-tests, submit-answer, submits, settle, step}
+use Rattle.rules.specs.Demands.{FirstRefusal, here, later, InRange}
+use Rattle.rules.proofs.Demand1.{judged-first}
+use Rattle.rules.proofs.Admitted.{Admitted, admits, answer-passed}
 
--- test n is the first that refuses, and names task t
-pub data First (n t : ℕ) : List Test → Type 0 where
-  here : {test : Test} {tests : List Test} → test .number ≡ n → test .refuses ≡ some t → First n t (test ∷ tests)
-  later : {test : Test} {tests : List Test} → test .refuses ≡ none → First n t tests → First n t (test ∷ tests)
-
-by-refusal : Answer → ℕ → Option ℕ → Answer
-by-refusal rest n o = elim o [ none ↦ rest | some t ↦ refusal n t ]
-
-pub judged-first : (passed : Answer) {n t : ℕ} {tests : List Test} → First n t tests → judged passed tests ≡ refusal n t
-unfolding judged by-refusal
-judged-first passed {n} {t} (here {test = test} {tests = tests} e h) =
-    ap (by-refusal (judged passed tests) (test .number)) h ∙ ap (λ k. refusal k t) e
-judged-first passed (later {test = test} {tests = tests} h rest) =
-    ap (by-refusal (judged passed tests) (test .number)) h ∙ judged-first passed rest
-
--- no test refuses
-pub judged-none : (passed : Answer) {tests : List Test} → NoRefusal tests → judged passed tests ≡ passed
-unfolding judged by-refusal
-judged-none passed end = refl
-judged-none passed (passes {test = test} {tests = tests} h rest) = ap (by-refusal (judged passed tests) (test .number)) h ∙ judged-none passed rest
-
-pub first-answers : (s : Setup) (v : View) (j : Job) {n t : ℕ} → First n t (submit-tests s v j) → submit-answer s v j ≡ refusal n t
+pub first-answers : (s : Setup) (v : View) (j : Job) {n t : ℕ} → FirstRefusal n t (submit-tests s v j) → submit-answer s v j ≡ refusal n t
 unfolding submit-answer
 first-answers s v j f = judged-first _ f
 
@@ -48,14 +26,14 @@ first-answers s v j f = judged-first _ f
 module _ (s : Setup) (v : View) (j : Job) (range : InRange s j) (free : v .held (j .number) ≡ false) where
   past-five :
       {n t : ℕ} →
-      First
+      FirstRefusal
       n
       t
       (record { number = 6; refuses = first-infeasible s (v .clock) j }
       ∷ record { number = 7; refuses = missed (placing s v j) }
       ∷ record { number = 8; refuses = refuse-if (ltb row-limit (length (v .rows) + length (found (placing s v j)))) }
       ∷ []) →
-      First n t (submit-tests s v j)
+      FirstRefusal n t (submit-tests s v j)
   unfolding submit-tests
   past-five f =
       later
@@ -78,7 +56,7 @@ module _ (s : Setup) (v : View) (j : Job) (range : InRange s j) (free : v .held 
           = rw is-placed (lt-ltb row-limit (length (v .rows) + length rows) h) in
           first-answers s v j (past-five (later feasible (later (ap missed is-placed) (here refl (ap refuse-if over)))))
 
-      pub answer-0 : length (v .rows) + length rows ≤ row-limit → submit-answer s v j ≡ record { number = 0; task = 0; cost = costs rows; rows = length rows }
+      pub answer-0 : length (v .rows) + length rows ≤ row-limit → submit-answer s v j ≡ admission rows
       unfolding submit-answer found
       answer-0 h =
           let adm : Admitted s v j
@@ -89,8 +67,7 @@ module _ (s : Setup) (v : View) (j : Job) (range : InRange s j) (free : v .held 
             rows-found = rw is-placed refl;
             fits = rw is-placed h;
           } in
-          judged-none _ (submit-answered s v j .passed .0 (admits s v j adm))
-          ∙ ap (λ p. record { number = 0; task = 0; cost = costs (found p); rows = length (found p) }) is-placed
+          answer-passed s v j (admits s v j adm) ∙ ap (λ p. admission (found p)) is-placed
 
 -- What is left.
 

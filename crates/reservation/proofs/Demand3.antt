@@ -1,4 +1,4 @@
--- Demand 3 of the code: every list of calls has one chain from a new register, and it is the rules' run.
+-- Demand 3 of the code: every list of calls has one trace from an opened register, and it is the rules' run.
 use mathlib.Core.Path.{_≡_, refl, sym, ap, ap₂, _∙_, subst, subst₂}
 use mathlib.Core.List.{List, [], _∷_}
 use Rattle.rules.specs.declared.Answer.{Answer}
@@ -13,7 +13,7 @@ use Rattle.rules.proofs.Demand3.{demand-3}
 use Rattle.reservation.specs.declared.Register.{Register}
 use Rattle.reservation.specs.Registers.{state-of, register-of}
 use Rattle.reservation.specs.Calls.{Steps}
-use Rattle.reservation.specs.Chains.{new-register, Chain, done, call, Demand3-of-code}
+use Rattle.reservation.specs.Demands.{opened, Trace, done, call, Demand3-of-code}
 use Rattle.reservation.proofs.Values.{state-same, register-valid}
 
 module _ (s : Setup) (sound : Sound s) where
@@ -27,46 +27,49 @@ module _ (s : Setup) (sound : Sound s) where
     valid = register-valid s (step s st c .left) sound (bounded-step s sound st c bounded);
   }
 
-  chain-there : (calls : List Call) (st : State) → Bounded s st → Chain (register-of s st) calls (answers (step s) st calls) (register-of s (after (step s) st calls))
+  trace-there : (calls : List Call) (st : State) → Bounded s st → Trace (register-of s st) calls (answers (step s) st calls) (register-of s (after (step s) st calls))
   unfolding answers after
-  chain-there [] st bounded = done
-  chain-there (c ∷ calls) st bounded =
-      call (step-there st bounded c) (chain-there calls (step s st c .left) (bounded-step s sound st c bounded))
+  trace-there [] st bounded = done
+  trace-there (c ∷ calls) st bounded =
+      call (step-there st bounded c) (trace-there calls (step s st c .left) (bounded-step s sound st c bounded))
 
-  -- whatever chain there is, it is that one
-  chain-only :
-      (calls : List Call) (st : State) (r : Register) → r ≡ register-of s st → (replies : List Answer) (last : Register) → Chain r calls replies last →
+  -- whatever trace there is, it is that one
+  trace-only :
+      (calls : List Call) (st : State) (r : Register) → r ≡ register-of s st → (replies : List Answer) (last : Register) → Trace r calls replies last →
       (replies ≡ answers (step s) st calls) × (last ≡ register-of s (after (step s) st calls))
   unfolding answers after
-  chain-only calls st r e replies last done = (refl, e)
-  chain-only calls st r e replies last (call {c = c} {calls = rest} {replies = more} {result = result} is chain) =
+  trace-only calls st r e replies last done = (refl, e)
+  trace-only calls st r e replies last (call {c = c} {calls = rest} {replies = more} {result = result} is trace) =
       let setup-is : r .setup ≡ s = ap (λ x. x .setup) e in
       let state-is : state-of r ≡ st = ap state-of e ∙ state-same s st in
       let answer-is : result .answer ≡ step s st c .answer = is .answer-is ∙ ap₂ (λ a b. step a b c .answer) setup-is state-is in
       let left-is : result .register ≡ register-of s (step s st c .left)
       = is .left-is ∙ ap₂ (λ a b. register-of a (step a b c .left)) setup-is state-is in
-      let below = chain-only rest (step s st c .left) (result .register) left-is more last chain in
+      let below = trace-only rest (step s st c .left) (result .register) left-is more last trace in
       (ap₂ _∷_ answer-is (below .0), below .1)
 
-pub demand-3-of-code : (calls : List Call) → Demand3-of-code calls
-demand-3-of-code calls =
-    let s = default-setup in
-    let rules = demand-3 s calls in
-    let start = bounded-fresh s in
-    let st = register-left s calls in
-    record {
-      replies = answers (step s) fresh calls;
-      last = register-of s st;
-      chain = chain-there s default-sound calls fresh start;
-      determined = λ replies′ last′ chain. chain-only s default-sound calls fresh new-register refl replies′ last′ chain;
-      answers-are = rules .answers-agree;
-      left-is = refl;
-      state-is = state-same s st;
-      demand = rules;
-      struck-chain =
-          subst₂
-          (λ a l. Chain new-register (struck-calls s calls) a (register-of s l))
-          (rules .struck-answers)
-          (rules .struck-state)
-          (chain-there s default-sound (struck-calls s calls) fresh start);
-    }
+  pub demand-3-of-code : (calls : List Call) → Demand3-of-code s calls
+  demand-3-of-code calls =
+      let rules = demand-3 s calls in
+      let start = bounded-fresh s in
+      let st = register-left s calls in
+      record {
+        replies = answers (step s) fresh calls;
+        last = register-of s st;
+        trace = trace-there calls fresh start;
+        determined = λ replies′ last′ trace. trace-only calls fresh (opened s) refl replies′ last′ trace;
+        answers-are = rules .answers-agree;
+        left-is = refl;
+        state-is = state-same s st;
+        demand = rules;
+        struck-trace =
+            subst₂
+            (λ a l. Trace (opened s) (struck-calls s calls) a (register-of s l))
+            (rules .struck-answers)
+            (rules .struck-state)
+            (trace-there (struck-calls s calls) fresh start);
+      }
+
+-- among them of what `Register::new` makes
+pub demand-3-of-new : (calls : List Call) → Demand3-of-code default-setup calls
+demand-3-of-new = demand-3-of-code default-setup default-sound

@@ -9,5 +9,6 @@ pub mod Admission
 pub mod Removed
 pub mod Scans
 pub mod Stepped
+pub mod Demands
 pub mod Demand3
 pub mod Ratios

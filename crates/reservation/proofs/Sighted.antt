@@ -15,6 +15,7 @@ use Rattle.rules.specs.Sequences.{any-of, keep}
 use Rattle.rules.specs.Words.{same, held-by, machines, view}
 use Rattle.rules.specs.Placing.{no-row}
 use Rattle.rules.specs.Refusals.{running, seen-in, look}
+use Rattle.rules.specs.Laws.{IsMachine}
 use Rattle.rules.proofs.Sequences.{by-test, any-none, keep-append, keep-none}
 use Rattle.rules.proofs.Demand1.{machine-listed, demand-1-look}
 use Rattle.reservation.specs.declared.Register.{Register}
@@ -63,18 +64,16 @@ first-kept {p} {rows} {count} {i} sofar more passes =
 
 module _ (r : Register) (m tick : ℕ) where
   -- what the rules see has 01's number and row
-  numbered : {seen : Seen} → seen ≡ look (r .setup) (view (state-of r)) m tick → Looks r m tick seen
-  numbered is =
-      let rules = demand-1-look (r .setup) (view (state-of r)) m tick in
-      record { seen-is = is; refused = rw is (rules .refused); sees = rw is (rules .sees) }
+  as-seen : {seen : Seen} → seen ≡ look (r .setup) (view (state-of r)) m tick → Looks r m tick seen
+  as-seen is = record { seen-is = is; seen-by = rw is (demand-1-look (r .setup) (view (state-of r)) m tick) }
 
-  pub sees-no-machine : ((1 ≤ m) × (m ≤ r .setup .table .machines) → ⊥) → Looks r m tick NoMachine
+  pub sees-no-machine : (IsMachine (r .setup) m → ⊥) → Looks r m tick NoMachine
   unfolding look
   sees-no-machine none-such =
       by-test
       (any-of (eqb m) (machines (r .setup)))
       (λ h. absurd (none-such (machine-listed (r .setup) m .0 h)))
-      (λ h. numbered (rw (h, look) refl))
+      (λ h. as-seen (rw (h, look) refl))
 
   module _
       {i : ℕ}
@@ -83,12 +82,12 @@ module _ (r : Register) (m tick : ℕ) where
       (sofar : NoneYet (running m tick) (r .rows) (r .count) i)
     where
       there : any-of (eqb m) (machines (r .setup)) ≡ true
-      there = machine-listed (r .setup) m .1 (low, high)
+      there = machine-listed (r .setup) m .1 (record { first = low; last = high })
 
       pub sees-idle : r .count ≤ i → Looks r m tick Idle
       unfolding look seen-in
       sees-idle all =
-          numbered
+          as-seen
           (rw
           (there, look, keep-none (running m tick) (take (r .count) (r .rows)) (λ row mem. any-none (running m tick) (sym (none-at-end sofar all)) mem))
           refl)
@@ -96,4 +95,4 @@ module _ (r : Register) (m tick : ℕ) where
       -- the first row that is on the machine at the tick is the one seen
       pub sees-row : i < r .count → running m tick (getD (r .rows) i no-row) ≡ true → Looks r m tick (Booked (getD (r .rows) i no-row))
       unfolding look seen-in
-      sees-row more passes = numbered (rw (there, look, first-kept sofar more passes) refl)
+      sees-row more passes = as-seen (rw (there, look, first-kept sofar more passes) refl)

@@ -18,9 +18,10 @@ use Rattle.rules.specs.Words.{State, View, view, of-job, row-limit, largest-num
 use Rattle.rules.specs.Placing.{no-row, costs, booked}
 use Rattle.rules.specs.Withdrawing.{admit, withdraw, advance, remove, ended}
 use Rattle.rules.specs.Refusals.{refuse-if, outside, refusal, accepted, miscounted, out-of-range, bad-messages, first-infeasible, placing, found, submit-tests, withdraw-tests, withdraw-answer, clock-tests, clock-answer, Call, submits, withdraws, moves, settle, step}
-use Rattle.rules.specs.Demands.{passes, end}
+use Rattle.rules.specs.Demands.{FirstRefusal, here, later, passes, end}
 use Rattle.rules.specs.Bounds.{Bounded}
 use Rattle.rules.proofs.Sequences.{by-test, keep-all, keep-none}
+use Rattle.rules.proofs.Demand1.{judged-first, judged-passed}
 use Rattle.rules.proofs.Struck.{step-still}
 use Rattle.rules.proofs.Bounds.{bounded-step}
 use Rattle.placement.specs.Columns.{ColumnOf}
@@ -33,7 +34,7 @@ use Rattle.reservation.specs.declared.submission.Verdict.{Verdict}
 use Rattle.reservation.specs.Calls.{Steps, EarlyIs, AskAdmit, Admits, refuses, Settles, Judges, RemovalIs, no-removal}
 use Rattle.reservation.specs.Tests.{named}
 use Rattle.reservation.proofs.Values.{register-same, register-valid, blank-rest}
-use Rattle.reservation.proofs.Answers.{First, here, later, first-answers, judged-first, judged-none, answer-6, answer-7, answer-8, answer-0, admitted-left}
+use Rattle.reservation.proofs.Answers.{first-answers, answer-6, answer-7, answer-8, answer-0, admitted-left}
 
 module _ {r : Register} (valid : Valid r) (c : Call) (a : Answer) (is : step (r .setup) (state-of r) c .answer ≡ a) where
   -- a refusal leaves the very same register
@@ -61,7 +62,7 @@ module _ {r : Register} (valid : Valid r) (c : Call) (a : Answer) (is : step (r 
 -- Refusals 1 to 4.
 
 module _ {s : Setup} {j : Job} where
-  abbrev first-is : (n : ℕ) → ((v : View) → First n 0 (submit-tests s v j)) → (n ≡ 0 → ⊥) → EarlyIs s j n
+  abbrev first-is : (n : ℕ) → ((v : View) → FirstRefusal n 0 (submit-tests s v j)) → (n ≡ 0 → ⊥) → EarlyIs s j n
   first-is n f ne = record { refused = λ _ v. first-answers s v j (f v); in-range = λ z. absurd (ne z) }
 
   pub early-1 : outside 1 largest-number (j .number) ≡ true → EarlyIs s j 1
@@ -306,7 +307,7 @@ module _ (s : Setup) (st : State) where
 
   pub withdraw-0 : (n : ℕ) → view st .held n ≡ true → any-of (λ row. leb (row .start) (st .clock)) (view st .rows-of n) ≡ false → step s st (withdraws n) .answer ≡ refusal 0 0
   unfolding step settle withdraw-answer withdraw-tests
-  withdraw-0 n a b = judged-none _ (passes (ap (λ b. refuse-if (not b)) a) (passes (ap refuse-if b) end))
+  withdraw-0 n a b = judged-passed _ (passes (ap (λ b. refuse-if (not b)) a) (passes (ap refuse-if b) end))
 
   pub withdrawn-left : (n : ℕ) → step s st (withdraws n) .answer ≡ refusal 0 0 → step s st (withdraws n) .left ≡ withdraw st n
   unfolding step settle
@@ -322,7 +323,7 @@ module _ (s : Setup) (st : State) where
 
   pub clock-0 : (tick : ℕ) → st .clock ≤ tick → tick ≤ horizon → step s st (moves tick) .answer ≡ refusal 0 0
   unfolding step settle clock-answer clock-tests
-  clock-0 tick h k = judged-none _ (passes (ap refuse-if (le-ltb tick (st .clock) h)) (passes (ap refuse-if (le-ltb horizon tick k)) end))
+  clock-0 tick h k = judged-passed _ (passes (ap refuse-if (le-ltb tick (st .clock) h)) (passes (ap refuse-if (le-ltb horizon tick k)) end))
 
   pub moved-left : (tick : ℕ) → step s st (moves tick) .answer ≡ refusal 0 0 → step s st (moves tick) .left ≡ advance st tick
   unfolding step settle

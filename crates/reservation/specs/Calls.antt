@@ -1,9 +1,7 @@
 -- One definition for each call: how its arguments and its result are related.
-use mathlib.Core.Logic.{_↔_}
 use mathlib.Core.Path.{_≡_}
 use mathlib.Core.Bool.{Bool, true, false}
-use mathlib.Core.List.{List, _++_, List·Memᴰ}
-use mathlib.Core.Option.{some}
+use mathlib.Core.List.{List, _++_}
 use Prim.Native.Nat.{ℕ, _+_, _*_, _≤_, _<_}
 use lib.Dec.{leb}
 use lib.ListN.{length, getD, take, replicate}
@@ -15,9 +13,9 @@ use Rattle.rules.specs.Sequences.{any-of, keep}
 use Rattle.rules.specs.Words.{View, view, of-job, row-limit}
 use Rattle.rules.specs.Placing.{no-row}
 use Rattle.rules.specs.Withdrawing.{remove, ended}
-use Rattle.rules.specs.Refusals.{Call, submits, withdraws, moves, step, look, running, seen-number, seen-row, refusal, submit-answer}
+use Rattle.rules.specs.Refusals.{Call, submits, withdraws, moves, step, look, refusal, submit-answer}
 use Rattle.rules.specs.Bounds.{largest-cost}
-use Rattle.rules.specs.Demands.{InRange}
+use Rattle.rules.specs.Demands.{InRange, SeenBy}
 use Rattle.placement.specs.Columns.{ColumnOf}
 use Rattle.placement.specs.Placements.{most-own, none-placed}
 use Rattle.placement.specs.declared.place.Placement.{Placement}
@@ -42,11 +40,10 @@ Withdraws r n result = Steps r (withdraws n) result
 abbrev pub Moves : Register → ℕ → Reply → Type 0
 Moves r tick result = Steps r (moves tick) result
 
--- Look: what the rules see; by its number, 13 exactly if the machine is none of the table's; by its row, one that is on the machine at the tick.
+-- Look: what the rules see, and by 01's number and row what demand 1 says of it.
 pub record Looks (r : Register) (m tick : ℕ) (seen : Seen) : Type 0 where
   pub seen-is : seen ≡ look (r .setup) (view (state-of r)) m tick
-  pub refused : (seen-number seen ≡ 13) ↔ ((1 ≤ m) × (m ≤ r .setup .table .machines) → ⊥)
-  pub sees : (row : Row) → seen-row seen ≡ some row → List·Memᴰ row (state-of r .rows) × (running m tick row ≡ true)
+  pub seen-by : SeenBy (r .setup) (view (state-of r)) m tick seen
 
 -- Parts of a submission.
 

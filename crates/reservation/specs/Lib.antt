@@ -2,5 +2,6 @@
 pub mod Registers
 pub mod Tests
 pub mod Calls
-pub mod Chains
+pub mod Kinds
+pub mod Demands
 pub mod Tallies

@@ -4,7 +4,7 @@ use crate::Reply;
 use rules::Job;
 ghost use Rattle.reservation.specs.Registers.{Valid};
 ghost use Rattle.reservation.specs.Calls.{Steps};
-ghost use Rattle.reservation.specs.Chains.{call-of};
+ghost use Rattle.reservation.specs.Kinds.{call-of};
 
 // The kind of a call, with its number or tick. A submission's job stands beside it, since an enum holds no arrays.
 pub enum Kind {

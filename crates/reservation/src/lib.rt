@@ -65,7 +65,7 @@ impl Register {
         ensures { λ r. ⌜ r ≡ register-of default-setup fresh ⌝ }
         ensures { λ r. ⌜ Valid r ⌝ }
     {
-        let rows = [blank(); ROWS];
+        let rows = [blank(); Self::ROWS];
         let setup = default_setup();
         Self {
             setup: setup,

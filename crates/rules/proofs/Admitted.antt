@@ -12,9 +12,9 @@ use Rattle.rules.specs.declared.Job.{Job}
 use Rattle.rules.specs.declared.Setup.{Setup}
 use Rattle.rules.specs.Words.{View, row-limit, largest-number}
 use Rattle.rules.specs.Placing.{Placing, booked, late}
-use Rattle.rules.specs.Refusals.{Test, refuse-if, outside, miscounted, out-of-range, bad-messages, first-infeasible, missed, found, placing, submit-tests, submit-answer}
+use Rattle.rules.specs.Refusals.{Test, refuse-if, outside, miscounted, out-of-range, bad-messages, first-infeasible, missed, found, placing, admission, submit-tests, submit-answer}
 use Rattle.rules.specs.Demands.{NoRefusal, end, passes, InRange}
-use Rattle.rules.proofs.Demand1.{submit-answered}
+use Rattle.rules.proofs.Demand1.{judged-passed, submit-answered}
 
 pub record Admitted (s : Setup) (v : View) (j : Job) : Type 0 where
   pub in-range : InRange s j
@@ -90,3 +90,8 @@ module _ (s : Setup) (v : View) (j : Job) where
       (passes
       (booked-not-missed (placing s v j) (a .rows-found))
       (passes (ap refuse-if (le-ltb row-limit (length (v .rows) + length (found (placing s v j))) (a .fits))) end))))))))
+
+  -- the answer of an accepted submission
+  pub answer-passed : submit-answer s v j .number ≡ 0 → submit-answer s v j ≡ admission (found (placing s v j))
+  unfolding submit-answer
+  answer-passed e = judged-passed (admission (found (placing s v j))) (submit-answered s v j .passed .0 e)

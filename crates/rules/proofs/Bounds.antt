@@ -170,7 +170,7 @@ module _ (s : Setup) (j : Job) (range : InRange s j) where
           is-due = turn-due s clock held j range new t m next kept (before .is-due)
 
           on : Between 1 (s .table .machines) m
-          on = record { first = kept .is-good .first; last = kept .is-good .last }
+          on = record { first = kept .is-good .is-machine .first; last = kept .is-good .is-machine .last }
 
           input : (row : Row) → row .finish ≤ horizon → List·Memᴰ row (try s clock held j new t m .inputs) → RowInRange s row
           input row ends n =

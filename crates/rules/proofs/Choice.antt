@@ -145,7 +145,7 @@ module _ (s : Setup) (clock : ℕ) (held : List Row) (j : Job) (new : List Row) 
   good-mem m g = keep-mem (good s clock held j new t) (mem-map (try s clock held j new t) tried) (le-leb _ _ (g .in-time))
     where
       listed : List·Memᴰ m (machines s)
-      listed = numbers-mem 1 (s .table .machines) m (g .first) (omega arith)
+      listed = numbers-mem 1 (s .table .machines) m (g .is-machine .first) (omega arith)
 
       tried : List·Memᴰ m (keep able (machines s))
       tried = keep-mem able listed (lt-ltb 0 (run-time j t m) (g .able))
@@ -163,8 +163,7 @@ module _ (s : Setup) (clock : ℕ) (held : List Row) (j : Job) (new : List Row) 
         made .0,
         made .2,
         record {
-          first = listed .0;
-          last = omega arith;
+          is-machine = record { first = listed .0; last = omega arith };
           able = ltb-true 0 (run-time j t (made .0)) (tried .1);
           in-time = leb-true _ _ (ap (good s clock held j new t) (sym (made .2)) ∙ kept .1);
         },

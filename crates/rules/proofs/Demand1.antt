@@ -1,8 +1,8 @@
 -- Demand 1: each call refuses by the number of its first test that refuses, and a refusal leaves the register as it was.
-use mathlib.Core.Path.{_≡_, refl, sym, _∙_, subst}
+use mathlib.Core.Path.{_≡_, refl, sym, ap, _∙_, subst}
 use mathlib.Core.Logic.{_↔_, _≢_}
-use mathlib.Core.Bool.{Bool, true, false, cond}
-use mathlib.Core.List.{List, [], _∷_, map, List·Memᴰ, List·Memᴰ·head, List·Memᴰ·tail}
+use mathlib.Core.Bool.{true, false}
+use mathlib.Core.List.{List, [], _∷_, map, List·Memᴰ, List·Memᴰ·head, List·Memᴰ·tail, List·Memᴰ·not-nil}
 use mathlib.Core.Option.{Option, none, some, Option·none-ne-some, Option·some-injective}
 use Prim.Native.Nat.{ℕ, _≤_}
 use native.Mathlib.Omega.{arith}
@@ -16,32 +16,38 @@ use Rattle.rules.specs.declared.Seen.the-variants.{NoMachine}
 use Rattle.rules.specs.Sequences.{any-of, keep, numbers}
 use Rattle.rules.specs.Words.{machines, State, View, view}
 use Rattle.rules.specs.Refusals.{Test, judged, refusal, submit-tests, withdraw-tests, clock-tests, submit-answer, withdraw-answer, clock-answer}
-use Rattle.rules.specs.Refusals.{Call, submits, withdraws, moves, settle, step, look, running, seen-in, seen-number, seen-row}
-use Rattle.rules.specs.Demands.{FirstRefusal, here, later, NoRefusal, end, passes, AnsweredBy, Demand1, Demand1-look}
-use Rattle.rules.proofs.Sequences.{by-test, clash, any-mem, any-witness, mem-map, mem-keep, mem-numbers, numbers-mem}
+use Rattle.rules.specs.Refusals.{Call, submits, withdraws, moves, settle, step, look, running, seen-in}
+use Rattle.rules.specs.Demands.{FirstRefusal, here, later, NoRefusal, end, passes, AnsweredBy, Demand1, SeenBy, Demand1-look}
+use Rattle.rules.specs.Laws.{IsMachine, RunsAt}
+use Rattle.rules.proofs.Sequences.{by-test, clash, any-mem, any-witness, mem-map, mem-keep, keep-mem, mem-numbers, numbers-mem}
+use Rattle.rules.proofs.Resources.{running-says}
 
 -- a test cannot both pass and refuse
 both : {C : Type 0} {o : Option ℕ} {t : ℕ} → o ≡ none → o ≡ some t → C
 both {t = t} p q = absurd (Option·none-ne-some t (sym p ∙ q))
 
--- the first test that refuses is the answer's number, where no test is numbered 0
+abbrev by-refusal : (rest : Answer) (n : ℕ) → Option ℕ → Answer
+by-refusal rest n o = elim o as (λ _. Answer) [ none ↦ rest | some t ↦ refusal n t ]
+
+-- the first test that refuses makes the whole answer, where no test is numbered 0
 pub judged-by :
     (passed : Answer) (tests : List Test) → passed .number ≡ 0 → ((test : Test) → List·Memᴰ test tests → test .number ≢ 0) →
     AnsweredBy tests (judged passed tests)
 unfolding judged
 judged-by passed [] zero-passed nonzero = record {
-  refused = λ n ne. (λ e. absurd (ne (sym e ∙ zero-passed)), λ f. elim f [ ]);
+  refused = λ n t ne. (λ e. absurd (ne (sym (ap (λ a. a .number) e) ∙ zero-passed)), λ f. elim f [ ]);
+  by-a-test = λ ne. absurd (ne zero-passed);
   passed = (λ e. end, λ f. zero-passed);
 }
 judged-by passed (test ∷ tests) zero-passed nonzero =
     go (test .refuses) refl (judged-by passed tests zero-passed (λ t m. nonzero t (List·Memᴰ·tail m)))
   where
-    after-first : {n : ℕ} → test .refuses ≡ none → FirstRefusal n (test ∷ tests) → FirstRefusal n tests
+    after-first : {n t : ℕ} → test .refuses ≡ none → FirstRefusal n t (test ∷ tests) → FirstRefusal n t tests
     after-first o (here e h) = both o h
     after-first o (later h f) = f
 
-    at-first : {n t : ℕ} → test .refuses ≡ some t → FirstRefusal n (test ∷ tests) → test .number ≡ n
-    at-first o (here e h) = e
+    at-first : {n t u : ℕ} → test .refuses ≡ some u → FirstRefusal n t (test ∷ tests) → refusal (test .number) u ≡ refusal n t
+    at-first o (here e h) = cc
     at-first o (later h f) = both h o
 
     no-refusal : NoRefusal (test ∷ tests) → (test .refuses ≡ none) × NoRefusal tests
@@ -51,13 +57,30 @@ judged-by passed (test ∷ tests) zero-passed nonzero =
         (o : Option ℕ) → test .refuses ≡ o → AnsweredBy tests (judged passed tests) →
         AnsweredBy (test ∷ tests) (elim o [ none ↦ judged passed tests | some t ↦ refusal (test .number) t ])
     go none o below = record {
-      refused = λ n ne. (λ e. later o (below .refused n ne .0 e), λ f. below .refused n ne .1 (after-first o f));
+      refused = λ n t ne. (λ e. later o (below .refused n t ne .0 e), λ f. below .refused n t ne .1 (after-first o f));
+      by-a-test = λ ne. let first = below .by-a-test ne in (first .0, later o (first .1));
       passed = (λ e. passes o (below .passed .0 e), λ f. below .passed .1 (no-refusal f .1));
     }
-    go (some t) o below = record {
-      refused = λ n ne. (λ e. here e o, λ f. at-first o f);
+    go (some u) o below = record {
+      refused = λ n t ne. (λ e. here (ap (λ a. a .number) e) (o ∙ ap (λ a. some (a .task)) e), λ f. at-first o f);
+      by-a-test = λ ne. (u, here refl o);
       passed = (λ e. absurd (nonzero test (List·Memᴰ·head refl) e), λ f. both (no-refusal f .0) o);
     }
+
+-- the first test that refuses makes the answer, whatever its number
+pub judged-first : (passed : Answer) {n t : ℕ} {tests : List Test} → FirstRefusal n t tests → judged passed tests ≡ refusal n t
+unfolding judged
+judged-first passed {n} {t} (here {test = test} {tests = tests} e h) =
+    ap (by-refusal (judged passed tests) (test .number)) h ∙ ap (λ k. refusal k t) e
+judged-first passed (later {test = test} {tests = tests} h rest) =
+    ap (by-refusal (judged passed tests) (test .number)) h ∙ judged-first passed rest
+
+-- where no test refuses, the answer is the one that was to be given
+pub judged-passed : (passed : Answer) {tests : List Test} → NoRefusal tests → judged passed tests ≡ passed
+unfolding judged
+judged-passed passed end = refl
+judged-passed passed (passes {test = test} {tests = tests} h rest) =
+    ap (by-refusal (judged passed tests) (test .number)) h ∙ judged-passed passed rest
 
 -- the same of tests numbered in turn, from 1 or more on
 in-turn :
@@ -96,48 +119,65 @@ demand-1 s st (moves tick) = record {
 }
 
 -- the machines looked for are those numbered 1 to the table's count
-pub machine-listed : (s : Setup) (m : ℕ) → (any-of (eqb m) (machines s) ≡ true) ↔ ((1 ≤ m) × (m ≤ s .table .machines))
+pub machine-listed : (s : Setup) (m : ℕ) → (any-of (eqb m) (machines s) ≡ true) ↔ IsMachine s m
 machine-listed s m = (
   λ e.
       let w = any-witness (eqb m) (machines s) e in
       let same = eqb-true m (w .0) (w .2) in
       let range = mem-numbers 1 (s .table .machines) (w .1) in
-      omega arith,
-  λ h. any-mem (eqb m) (numbers-mem 1 (s .table .machines) m (h .0) (omega arith)) (eq-eqb m m refl),
+      record { first = omega arith; last = omega arith },
+  λ h. any-mem (eqb m) (numbers-mem 1 (s .table .machines) m (h .first) (omega arith)) (eq-eqb m m refl),
 )
 
-look-number : (s : Setup) (v : View) (m tick : ℕ) → seen-number (look s v m tick) ≡ cond (any-of (eqb m) (machines s)) 0 13
-unfolding look seen-in
-look-number s v m tick = go (any-of (eqb m) (machines s)) (keep (running m tick) (v .rows))
-  where
-    go : (b : Bool) (rows : List Row) → seen-number (elim b [ true ↦ seen-in rows | false ↦ NoMachine ]) ≡ cond b 0 13
-    go true [] = refl
-    go true (row ∷ rows) = refl
-    go false rows = refl
+-- a look at a machine of the table answers the first of the rows there, and at any other 13
+module _ (s : Setup) (v : View) (m tick : ℕ) where
+  there : List Row
+  there = keep (running m tick) (v .rows)
 
-look-row : (s : Setup) (v : View) (m tick : ℕ) (row : Row) → seen-row (look s v m tick) ≡ some row → List·Memᴰ row (v .rows) × (running m tick row ≡ true)
-unfolding look seen-in
-look-row s v m tick row = go (any-of (eqb m) (machines s)) (keep (running m tick) (v .rows)) (λ x n. mem-keep (running m tick) (v .rows) n)
-  where
-    go :
-        (b : Bool) (rows : List Row) → ((x : Row) → List·Memᴰ x rows → List·Memᴰ x (v .rows) × (running m tick x ≡ true)) →
-        seen-row (elim b [ true ↦ seen-in rows | false ↦ NoMachine ]) ≡ some row → List·Memᴰ row (v .rows) × (running m tick row ≡ true)
-    go true [] of e = absurd (Option·none-ne-some row e)
-    go true (x ∷ rows) of e = rw (sym (Option·some-injective x row e)) (of x (List·Memᴰ·head refl))
-    go false rows of e = absurd (Option·none-ne-some row e)
+  look-machine : any-of (eqb m) (machines s) ≡ true → look s v m tick ≡ seen-in there
+  unfolding look there
+  look-machine h = rw (h, look) refl
 
-pub demand-1-look : (s : Setup) (v : View) (m tick : ℕ) → Demand1-look s v m tick
-demand-1-look s v m tick =
-    let listed = machine-listed s m in
-    by-test
-    (any-of (eqb m) (machines s))
-    (λ h. let n : seen-number (look s v m tick) ≡ 0 = rw h at (look-number s v m tick) in record {
-      refused = (λ e. absurd (omega arith), λ none-such. absurd (none-such (listed .0 h)));
-      passed = (λ e. listed .0 h, λ range. n);
-      sees = look-row s v m tick;
-    })
-    (λ h. let n : seen-number (look s v m tick) ≡ 13 = rw h at (look-number s v m tick) in record {
-      refused = (λ e range. clash (listed .1 range) h, λ none-such. n);
-      passed = (λ e. absurd (omega arith), λ range. clash (listed .1 range) h);
-      sees = look-row s v m tick;
-    })
+  look-none : any-of (eqb m) (machines s) ≡ false → look s v m tick ≡ NoMachine
+  unfolding look
+  look-none h = rw (h, look) refl
+
+  mem-there : (row : Row) → List·Memᴰ row there → List·Memᴰ row (v .rows) × RunsAt m tick row
+  unfolding there
+  mem-there row n = let kept = mem-keep (running m tick) (v .rows) n in (kept .0, running-says m tick row .0 (kept .1))
+
+  there-mem : (row : Row) → List·Memᴰ row (v .rows) → RunsAt m tick row → List·Memᴰ row there
+  unfolding there
+  there-mem row n runs = keep-mem (running m tick) n (running-says m tick row .1 runs)
+
+  seen-there : IsMachine s m → (rows : List Row) → rows ≡ there → SeenBy s v m tick (seen-in rows)
+  unfolding seen-in
+  seen-there is [] e = record {
+    refused = (λ n. absurd (omega arith), λ none-such. absurd (none-such is));
+    passed = (λ n. is, λ _. refl);
+    sees = λ row n. absurd (Option·none-ne-some row n);
+    idle = (λ _. (is, λ row n runs. List·Memᴰ·not-nil (subst (List·Memᴰ row) (sym e) (there-mem row n runs))), λ _. refl);
+  }
+  seen-there is (x ∷ rows) e =
+      let x-there = mem-there x (subst (List·Memᴰ x) e (List·Memᴰ·head refl)) in
+      record {
+        refused = (λ n. absurd (omega arith), λ none-such. absurd (none-such is));
+        passed = (λ n. is, λ _. refl);
+        sees = λ row n. rw (sym (Option·some-injective x row n)) x-there;
+        idle = (λ n. let z : _≡_ {A = ℕ} 0 1 = cc in absurd (omega arith), λ empty. absurd (empty .1 x (x-there .0) (x-there .1)));
+      }
+
+  seen-nowhere : (IsMachine s m → ⊥) → SeenBy s v m tick NoMachine
+  seen-nowhere none-such = record {
+    refused = (λ _. none-such, λ _. refl);
+    passed = (λ n. absurd (omega arith), λ is. absurd (none-such is));
+    sees = λ row n. absurd (Option·none-ne-some row n);
+    idle = (λ n. let z : _≡_ {A = ℕ} 0 1 = cc in absurd (omega arith), λ empty. absurd (none-such (empty .0)));
+  }
+
+  pub demand-1-look : Demand1-look s v m tick
+  demand-1-look =
+      by-test
+      (any-of (eqb m) (machines s))
+      (λ h. rw (look-machine h) (seen-there (machine-listed s m .0 h) there refl))
+      (λ h. rw (look-none h) (seen-nowhere (λ is. clash (machine-listed s m .1 is) h)))

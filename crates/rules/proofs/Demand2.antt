@@ -1,5 +1,5 @@
--- Demand 2: a job in range and not held is admitted exactly when placing finds every task a good trial and the rows fit, and then with those rows.
-use mathlib.Core.Path.{_≡_, refl, ap}
+-- Demand 2: a job is admitted exactly when it is in range, not held, placing finds every task a good trial and the rows fit; and then with those rows.
+use mathlib.Core.Path.{_≡_, refl, ap, _∙_}
 use mathlib.Core.Bool.{true, false}
 use mathlib.Core.List.{List, [], _∷_, _++_, map, List·Memᴰ}
 use mathlib.Core.Option.{Option, none, some}
@@ -15,15 +15,15 @@ use Rattle.rules.specs.Sequences.{keep, foremost}
 use Rattle.rules.specs.Words.{row-limit, machines, task-numbers, task-of, run-time, State, View, view}
 use Rattle.rules.specs.Placing.{into, release, try, booked}
 use Rattle.rules.specs.Withdrawing.{admit}
-use Rattle.rules.specs.Refusals.{infeasible, first-infeasible, found, placing, submit-answer, settle, step}
+use Rattle.rules.specs.Refusals.{infeasible, first-infeasible, found, placing, admission, submit-answer, settle, step}
 use Rattle.rules.specs.Laws.{IsGood}
-use Rattle.rules.specs.Demands.{InRange, Places, Demand2}
+use Rattle.rules.specs.Demands.{InRange, Places, Admissible, Demand2}
 use Rattle.rules.proofs.Sequences.{keep-mem, mem-keep, mem-map, numbers-mem}
 use Rattle.rules.proofs.Choice.{precedes-false, foremost-mem, foremost-first, foremost-empty, mem-task, choice-kept}
 use Rattle.rules.proofs.Inputs.{from-arrived, try-shape}
 use Rattle.rules.proofs.Order.{in-range-ends, in-range-lower, lower-acyclic}
 use Rattle.rules.proofs.AllPlaced.{all-placed, placed-by-good}
-use Rattle.rules.proofs.Admitted.{admitted, admits}
+use Rattle.rules.proofs.Admitted.{admitted, admits, answer-passed}
 
 -- a trial does not end before the clock plus its run time
 trial-ends :
@@ -47,7 +47,7 @@ infeasible-never-good s clock held j t e new m good = go (foremost (λ run. run 
 
     own-run : List·Memᴰ (run-time j t m) runs
     own-run =
-        let listed = numbers-mem 1 (s .table .machines) m (good .first) (omega arith) in
+        let listed = numbers-mem 1 (s .table .machines) m (good .is-machine .first) (omega arith) in
         keep-mem (ltb 0) (mem-map (run-time j t) listed) (lt-ltb 0 (run-time j t m) (good .able))
 
     go :
@@ -77,28 +77,33 @@ placed-feasible s v j rows places = go (foremost (λ t. t ∷ []) infeasible-tas
         let kept = choice-kept s (v .clock) (v .rows) j (turn .0) t (turn .1) (turn .2) in
         absurd (infeasible-never-good s (v .clock) (v .rows) j t (m .1) (turn .0) (kept .0) (kept .2 .is-good))
 
-pub demand-2 : (s : Setup) (st : State) (j : Job) → InRange s j → view st .held (j .number) ≡ false → Demand2 s st j
+pub demand-2 : (s : Setup) (st : State) (j : Job) → Demand2 s st j
 unfolding step settle found
-demand-2 s st j range free = record {
+demand-2 s st j = record {
   admitted = (
-    λ e. let a = admitted s (view st) j e in (found (placing s (view st) j), places (a .rows-found), a .fits),
-    λ given. passes (given .0) (given .1) (given .2),
+    λ e.
+        let a = admitted s (view st) j e in (
+          found (placing s (view st) j),
+          record { in-range = a .in-range; not-held = a .not-held; places = places (a .in-range) (a .rows-found); fits = a .fits },
+        ),
+    λ given. passes (given .0) (given .1),
   );
-  with-its-rows = λ rows its fits. rw (eq-eqb _ 0 (passes rows its fits)) (ap (λ it. admit st (found it)) (its .rows-found));
+  answered = λ rows is. answer-passed s (view st) j (passes rows is) ∙ ap (λ it. admission (found it)) (is .places .rows-found);
+  with-its-rows = λ rows is. rw (eq-eqb _ 0 (passes rows is)) (ap (λ it. admit st (found it)) (is .places .rows-found));
 }
   where
-    places : {rows : List Row} → placing s (view st) j ≡ booked rows → Places s (view st) j rows
-    places {rows} e = record {
+    places : {rows : List Row} → InRange s j → placing s (view st) j ≡ booked rows → Places s (view st) j rows
+    places {rows} range e = record {
       rows-found = e;
       every-task = all-placed s (view st) j rows (lower-acyclic j (in-range-lower s j range)) (in-range-ends s j range) e;
     }
 
-    passes : (rows : List Row) → Places s (view st) j rows → length (st .rows) + length rows ≤ row-limit → submit-answer s (view st) j .number ≡ 0
-    passes rows its fits =
+    passes : (rows : List Row) → Admissible s (view st) j rows → submit-answer s (view st) j .number ≡ 0
+    passes rows is =
         admits s (view st) j (record {
-          in-range = range;
-          not-held = free;
-          feasible = placed-feasible s (view st) j rows its;
-          rows-found = rw (its .rows-found) refl;
-          fits = rw (its .rows-found) fits;
+          in-range = is .in-range;
+          not-held = is .not-held;
+          feasible = placed-feasible s (view st) j rows (is .places);
+          rows-found = rw (is .places .rows-found) refl;
+          fits = rw (is .places .rows-found) (is .fits);
         })

@@ -120,7 +120,7 @@ module _ (s : Setup) (e : Entry) (is : Entered s e) where
       let facts = whole (λ rows. TaskFacts s (e .job) rows t) (is .rows-due .task-facts t there []) in
       let most = is .rows-due .task-once t in
       let least = count-some (books-task t) (e .rows) there in
-      record { once = omega arith; able = facts .able; due = facts .due; in-time = facts .in-time }
+      record { once = omega arith; on-machine = facts .on-machine; able = facts .able; due = facts .due; in-time = facts .in-time }
 
   message-due : (msg : Message) → List·Memᴰ msg (messages-of (e .job)) → MessageDue s (e .job) (e .rows) msg
   message-due msg n =

@@ -36,4 +36,4 @@ pub turn-due :
     IsNext j new t → IsKept s clock held j new t m → Progress s j new → Progress s j (new ++ trial-rows (try s clock held j new t m))
 turn-due s clock held j range new t m next kept =
     progress-turn s clock j (in-range-differ s j range) new t m (try s clock held j new t m) (try-shape s clock held j new t m) (next .is-task)
-    (next .is-ready) (kept .is-good .able) (kept .is-good .in-time)
+    (next .is-ready) (kept .is-good .is-machine) (kept .is-good .able) (kept .is-good .in-time)

@@ -18,7 +18,7 @@ use Rattle.rules.specs.Words.{messages-of, task-of, run-time}
 use Rattle.rules.specs.Placing.{transfer, is-task, is-message, books-task, books-message, no-row}
 use Rattle.rules.specs.Placing.{task-row, message-row, machine-of, machine-for, placed, crosses, arrival, into, ready, release, all-arrived, Trial, trial-rows}
 use Rattle.rules.specs.Demands.{between, Owed, to-task, to-message}
-use Rattle.rules.specs.Laws.{IsTask}
+use Rattle.rules.specs.Laws.{IsMachine, IsTask}
 use Rattle.rules.proofs.Sequences.{by-test, clash, and-true, or-cases, any-append, or-right, or-false, all-mem, mem-keep, keep-mem, count-append, count-none, first-append, first-skip}
 use Rattle.rules.proofs.Pairs.{Pairwise, pairwise-keep}
 use Rattle.rules.proofs.Inputs.{Differ, same-pair-same, crossing, booking, booked-no-task, booked-only, booked-none, booked-found, Found, arrives-by, Shape, pair-books}
@@ -41,6 +41,7 @@ module _ (s : Setup) (j : Job) (rows : List Row) where
   -- of a placed task
   pub record TaskFacts (t : ℕ) : Type 0 where
     pub is-task : IsTask j t
+    pub on-machine : IsMachine s (machine-for rows t)
     pub able : 0 < run-time j t (machine-for rows t)
     pub due : task-row rows t .finish ≡ task-row rows t .start + run-time j t (machine-for rows t)
     pub in-time : task-row rows t .finish ≤ task-of j t .deadline
@@ -97,6 +98,7 @@ module _
     (shape : Shape s clock j new t m trial)
     (listed : IsTask j t)
     (is-ready : ready j new t ≡ true)
+    (is-machine : IsMachine s m)
     (able : 0 < run-time j t m)
     (in-time : trial .own .finish ≤ task-of j t .deadline)
   where
@@ -195,6 +197,7 @@ module _
     own-facts : (ext : List Row) → TaskFacts s j (booked ++ ext) t
     own-facts ext = record {
       is-task = listed;
+      on-machine = rw (machine-own ext) is-machine;
       able = rw (machine-own ext) able;
       due = rw (machine-own ext, own-found ext) (ap (λ row. row .finish) (shape .own));
       in-time = rw (own-found ext) in-time;

@@ -1,6 +1,6 @@
 -- A trial: the rows that its messages take are the bookings of those that cross to the machine, in their order, and its own row waits for all of them.
 use mathlib.Core.Path.{_≡_, refl, sym, ap, _∙_, subst}
-use mathlib.Core.Logic.{⊎-elim}
+use mathlib.Core.Logic.{_↔_, ⊎-elim}
 use mathlib.Core.Bool.{Bool, true, false}
 use mathlib.Core.List.{List, [], _∷_, _++_, append-nil, append-assoc}
 use mathlib.Core.List.{List·Memᴰ, List·Memᴰ·head, List·Memᴰ·tail, List·Memᴰ·cases-cons, List·Memᴰ·not-nil}
@@ -13,12 +13,14 @@ use Rattle.rules.specs.declared.Message.{Message}
 use Rattle.rules.specs.declared.Job.{Job}
 use Rattle.rules.specs.declared.Setup.{Setup}
 use Rattle.rules.specs.Sequences.{any-of, count-of}
-use Rattle.rules.specs.Words.{Span, machine, link, run-time}
+use Rattle.rules.specs.Words.{Span, machine, link, messages-of, run-time}
 use Rattle.rules.specs.Placing.{least-free, spans-on, task-booking, message-booking, transfer, is-task, is-message, books-task, books-message}
 use Rattle.rules.specs.Placing.{task-row, message-row, machine-for, crosses, arrival, into, release, message-trial, message-trials, all-arrived, Trial, try}
-use Rattle.rules.proofs.Sequences.{by-test, clash, and-true, and-both, count-none}
+use Rattle.rules.specs.Laws.{NotBefore, Task-starts, Message-starts}
+use Rattle.rules.proofs.Sequences.{by-test, clash, and-true, and-both, count-none, mem-keep, keep-mem}
 use Rattle.rules.proofs.Pairs.{Pairwise, more}
 use Rattle.rules.proofs.LeastTick.{least-is-least}
+use Rattle.rules.proofs.Resources.{least-on}
 
 -- the same sender and the same receiver
 pub record SamePair (x y : Message) : Type 0 where
@@ -182,6 +184,16 @@ unfolding all-arrived
 from-arrived rows b from [] = omega arith
 from-arrived rows b from (msg ∷ msgs) = let below = from-arrived rows b from msgs in omega arith
 
+pub arrived-at-most :
+    (rows : List Row) (b from : ℕ) (msgs : List Message) (x : ℕ) → from ≤ x → ((msg : Message) → List·Memᴰ msg msgs → arrival rows msg b ≤ x) →
+    all-arrived rows b from msgs ≤ x
+unfolding all-arrived
+arrived-at-most rows b from [] x h by = h
+arrived-at-most rows b from (msg ∷ msgs) x h by =
+    let first = by msg (List·Memᴰ·head refl) in
+    let below = arrived-at-most rows b from msgs x h (λ y n. by y (List·Memᴰ·tail n)) in
+    omega arith
+
 -- the shape of a trial of machine m for task t
 pub record Shape (s : Setup) (clock : ℕ) (j : Job) (new : List Row) (t m : ℕ) (trial : Trial) : Type 0 where
   pub inputs : Booked s j new m (trial .inputs) (into j t)
@@ -199,3 +211,47 @@ try-shape s clock held j new t m =
       own = refl;
       waits = least-is-least from (run-time j t m) (spans-on (machine m) (held ++ new)) .not-before;
     }
+
+-- a tick is not before all arrivals and the floor exactly if it is not before each of them
+all-arrived-says :
+    (clock : ℕ) (j : Job) (new rows : List Row) (t m : ℕ) (x : ℕ) →
+    (all-arrived rows m (release clock j new t) (into j t) ≤ x) ↔ NotBefore clock j new rows t m x
+all-arrived-says clock j new rows t m x = (
+  λ h. record {
+    floor = let by = from-arrived rows m (release clock j new t) (into j t) in omega arith;
+    arrivals =
+        λ msg n e.
+        let its = keep-mem (λ msg. eqb (msg .receiver) t) n (eq-eqb (msg .receiver) t e) in
+        let by = arrives-by rows m (release clock j new t) its in
+        omega arith;
+  },
+  λ h.
+      arrived-at-most rows m (release clock j new t) (into j t) x (h .floor) λ msg n.
+      let r = mem-keep (λ msg. eqb (msg .receiver) t) (messages-of j) n in
+      h .arrivals msg (r .0) (eqb-true (msg .receiver) t (r .1)),
+)
+
+-- the law of a task's start
+pub task-starts : Task-starts
+unfolding try
+task-starts s clock held j new t m =
+    let rows : List Row = new ++ message-trials s held j new m [] (into j t) in
+    least-on
+    (machine m)
+    (held ++ new)
+    (all-arrived rows m (release clock j new t) (into j t))
+    (run-time j t m)
+    (NotBefore clock j new rows t m)
+    (all-arrived-says clock j new rows t m)
+
+-- the law of a message's start
+pub message-starts : Message-starts
+unfolding message-trial
+message-starts s held j new m tried msg h =
+    let a = machine-for new (msg .sender) in
+    let from : ℕ = task-row new (msg .sender) .finish in
+    let rows : List Row = held ++ (new ++ tried) in (
+      least-free from (transfer s msg a m) (spans-on (link a m) rows),
+      rw h refl,
+      least-on (link a m) rows from (transfer s msg a m) (λ tick. from ≤ tick) (λ x. (λ k. k, λ k. k)),
+    )

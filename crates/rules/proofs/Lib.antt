@@ -3,6 +3,7 @@ pub mod Sequences
 pub mod Pairs
 pub mod Choice
 pub mod LeastTick
+pub mod Resources
 pub mod Steps
 pub mod Turns
 pub mod Inputs

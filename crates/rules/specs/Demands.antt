@@ -12,30 +12,34 @@ use Rattle.rules.specs.declared.Message.{Message}
 use Rattle.rules.specs.declared.Job.{Job}
 use Rattle.rules.specs.declared.Setup.{Setup}
 use Rattle.rules.specs.declared.Answer.{Answer}
+use Rattle.rules.specs.declared.Seen.{Seen}
+use Rattle.rules.specs.declared.Seen.the-variants.{Idle}
 use Rattle.rules.specs.Sequences.{keep, count-of, numbers}
 use Rattle.rules.specs.Words.{Within, resource, span, largest-number, row-limit, messages-of, task-of, run-time}
 use Rattle.rules.specs.Words.{State, View, view, fresh, of-job}
-use Rattle.rules.specs.Placing.{books-task, books-message, no-row, task-row, message-row, machine-for, placed, crosses, arrival, transfer, booked}
+use Rattle.rules.specs.Placing.{books-task, books-message, no-row, task-row, message-row, machine-for, placed, crosses, arrival, transfer, costs, booked}
 use Rattle.rules.specs.Withdrawing.{admit}
-use Rattle.rules.specs.Refusals.{Test, submit-tests, withdraw-tests, clock-tests, placing, look, running, seen-number, seen-row}
+use Rattle.rules.specs.Refusals.{Test, submit-tests, withdraw-tests, clock-tests, placing, look, seen-number, seen-row}
 use Rattle.rules.specs.Refusals.{outside, miscounted, out-of-range, bad-messages, accepted, Call, submits, withdraws, moves, step, answers, after, struck}
 use Rattle.rules.specs.Journal.{Entry, Journal, empty, rows-in, journal-total, journal-step}
-use Rattle.rules.specs.Laws.{IsTask}
+use Rattle.rules.specs.Laws.{IsMachine, IsTask, RunsAt}
 
 -- Demand 1: each call ends, and refuses by its number, leaving all untouched.
 
--- the test numbered n refuses, and none before it does
-pub data FirstRefusal (n : ℕ) : List Test → Type 0 where
-  here : {test : Test} {tests : List Test} {task : ℕ} → test .number ≡ n → test .refuses ≡ some task → FirstRefusal n (test ∷ tests)
-  later : {test : Test} {tests : List Test} → test .refuses ≡ none → FirstRefusal n tests → FirstRefusal n (test ∷ tests)
+-- the test numbered n refuses and names task t, and no test before it refuses
+pub data FirstRefusal (n t : ℕ) : List Test → Type 0 where
+  here : {test : Test} {tests : List Test} → test .number ≡ n → test .refuses ≡ some t → FirstRefusal n t (test ∷ tests)
+  later : {test : Test} {tests : List Test} → test .refuses ≡ none → FirstRefusal n t tests → FirstRefusal n t (test ∷ tests)
 
 pub data NoRefusal : List Test → Type 0 where
   end : NoRefusal []
   passes : {test : Test} {tests : List Test} → test .refuses ≡ none → NoRefusal tests → NoRefusal (test ∷ tests)
 
--- the number answered is n exactly when test n is the first that refuses, and 0 exactly when none does
+-- the whole answer is number n, task t, cost 0 and count 0 exactly when test n is the first that refuses, and names t; every number but 0 is such a one;
+-- and the number is 0 exactly when no test refuses
 pub record AnsweredBy (tests : List Test) (a : Answer) : Type 0 where
-  pub refused : (n : ℕ) → n ≢ 0 → (a .number ≡ n) ↔ FirstRefusal n tests
+  pub refused : (n t : ℕ) → n ≢ 0 → (a ≡ record { number = n; task = t; cost = 0; rows = 0 }) ↔ FirstRefusal n t tests
+  pub by-a-test : a .number ≢ 0 → (t : ℕ) × FirstRefusal (a .number) t tests
   pub passed : (a .number ≡ 0) ↔ NoRefusal tests
 
 abbrev pub tests-for : Setup → View → Call → List Test
@@ -53,11 +57,16 @@ pub record Demand1 (s : Setup) (st : State) (c : Call) : Type 0 where
   pub answered : AnsweredBy (tests-for s (view st) c) (step s st c .answer)
   pub untouched : step s st c .answer .number ≢ 0 → step s st c .left ≡ st
 
--- a look answers 13 exactly for a machine that the table does not have, and else 0; the row seen is one that is on the machine at the tick
-pub record Demand1-look (s : Setup) (v : View) (m tick : ℕ) : Type 0 where
-  pub refused : (seen-number (look s v m tick) ≡ 13) ↔ ((1 ≤ m) × (m ≤ s .table .machines) → ⊥)
-  pub passed : (seen-number (look s v m tick) ≡ 0) ↔ ((1 ≤ m) × (m ≤ s .table .machines))
-  pub sees : (row : Row) → seen-row (look s v m tick) ≡ some row → List·Memᴰ row (v .rows) × (running m tick row ≡ true)
+-- a look answers 13 exactly for a machine that the table does not have, and else 0; a row that it answers is on the machine at the tick; it answers idle
+-- exactly where the table has the machine and no row on it holds the tick
+pub record SeenBy (s : Setup) (v : View) (m tick : ℕ) (seen : Seen) : Type 0 where
+  pub refused : (seen-number seen ≡ 13) ↔ (IsMachine s m → ⊥)
+  pub passed : (seen-number seen ≡ 0) ↔ IsMachine s m
+  pub sees : (row : Row) → seen-row seen ≡ some row → List·Memᴰ row (v .rows) × RunsAt m tick row
+  pub idle : (seen ≡ Idle) ↔ (IsMachine s m × ((row : Row) → List·Memᴰ row (v .rows) → RunsAt m tick row → ⊥))
+
+abbrev pub Demand1-look : Setup → View → (m tick : ℕ) → Type 0
+Demand1-look s v m tick = SeenBy s v m tick (look s v m tick)
 
 -- Demand 2: a job is admitted exactly when DRCD places it, with DRCD's rows.
 
@@ -73,11 +82,19 @@ pub record Places (s : Setup) (v : View) (j : Job) (rows : List Row) : Type 0 wh
   pub rows-found : placing s v j ≡ booked rows
   pub every-task : (t : ℕ) → IsTask j t → placed rows t ≡ true
 
+-- in range, not held, placed with these rows, and the rows fit
+pub record Admissible (s : Setup) (v : View) (j : Job) (rows : List Row) : Type 0 where
+  pub in-range : InRange s j
+  pub not-held : v .held (j .number) ≡ false
+  pub places : Places s v j rows
+  pub fits : length (v .rows) + length rows ≤ row-limit
+
 pub record Demand2 (s : Setup) (st : State) (j : Job) : Type 0 where
-  pub admitted :
-      (step s st (submits j) .answer .number ≡ 0)
-      ↔ ((rows : List Row) × Places s (view st) j rows × (length (st .rows) + length rows ≤ row-limit))
-  pub with-its-rows : (rows : List Row) → Places s (view st) j rows → length (st .rows) + length rows ≤ row-limit → step s st (submits j) .left ≡ admit st rows
+  pub admitted : (step s st (submits j) .answer .number ≡ 0) ↔ ((rows : List Row) × Admissible s (view st) j rows)
+  pub answered :
+      (rows : List Row) → Admissible s (view st) j rows →
+      step s st (submits j) .answer ≡ record { number = 0; task = 0; cost = costs rows; rows = length rows }
+  pub with-its-rows : (rows : List Row) → Admissible s (view st) j rows → step s st (submits j) .left ≡ admit st rows
 
 -- Demand 3: one claim about every list of calls.
 
@@ -95,9 +112,10 @@ abbrev pub rows-for : List Row → Job → List Row
 rows-for rows j = keep (of-job (j .number)) rows
 
 module _ (s : Setup) (j : Job) (mine : List Row) where
-  -- a task has exactly one row, of its run time on the row's machine, which can run it, and ends by its deadline
+  -- a task has exactly one row, on a machine of the table that can run it, of its run time there, and ends by its deadline
   pub record TaskDue (t : ℕ) : Type 0 where
     pub once : count-of (books-task t) mine ≡ 1
+    pub on-machine : IsMachine s (machine-for mine t)
     pub able : 0 < run-time j t (machine-for mine t)
     pub due : task-row mine t .finish ≡ task-row mine t .start + run-time j t (machine-for mine t)
     pub in-time : task-row mine t .finish ≤ task-of j t .deadline

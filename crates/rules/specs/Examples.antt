@@ -8,7 +8,7 @@ use Rattle.rules.specs.declared.Row.{Row}
 use Rattle.rules.specs.declared.Task.{Task}
 use Rattle.rules.specs.declared.Message.{Message}
 use Rattle.rules.specs.declared.Job.{Job}
-use Rattle.rules.specs.declared.Answer.{Answer}
+use Rattle.rules.specs.declared.Seen.the-variants.{Idle, Booked, NoMachine}
 use Rattle.rules.specs.Sequences
 use Rattle.rules.specs.Words
 use Rattle.rules.specs.Placing
@@ -17,8 +17,9 @@ use Rattle.rules.specs.Refusals
 use Rattle.rules.specs.Sequences.{numbers}
 use Rattle.rules.specs.Words.{State, fresh}
 use Rattle.rules.specs.Placing.{costs}
-use Rattle.rules.specs.Refusals.{submits, withdraws, moves, refusal}
-use Rattle.rules.specs.Ledger.{task, message, job-with, job, on, over-link, admitted, Given, calls, asked, Outcome, leaves, answered, Example, job-A, job-H}
+use Rattle.rules.specs.Refusals.{submits, withdraws, moves}
+use Rattle.rules.specs.Ledger.{task, message, job-with, job, on, over-link, admitted, refused, done}
+use Rattle.rules.specs.Ledger.{Given, calls, asked, looked, Outcome, leaves, answered, sees, Example, job-A, job-H}
 
 -- How the second table is written.
 
@@ -26,7 +27,7 @@ abbrev pub shows : Given → Outcome → Example
 shows g o = record { given = g; expected = o }
 
 abbrev pub refuses : State → Job → (number task : ℕ) → Example
-refuses st j n t = shows (asked st j) (answered (refusal n t))
+refuses st j n t = shows (asked st j) (answered (refused n t))
 
 abbrev pub admits : State → Job → (cost rows : ℕ) → Example
 admits st j c n = shows (asked st j) (answered (admitted c n))
@@ -34,10 +35,6 @@ admits st j c n = shows (asked st j) (answered (admitted c n))
 -- a fresh register admits the job, with this cost and these rows
 abbrev pub gives : Job → (cost : ℕ) → List Row → Example
 gives j c rows = shows (calls (submits j ∷ [])) (leaves (admitted c (length rows) ∷ []) rows)
-
--- the answer to an accepted withdrawal or clock move
-abbrev pub done : Answer
-done = refusal 0 0
 
 abbrev pub holding : (clock : ℕ) → List Row → State
 holding clock rows = record { clock = clock; rows = rows; total = costs rows }
@@ -265,15 +262,19 @@ withdrawals-and-moves =
     -- 9: a number that is not held, in range or not
     shows
     (calls (withdraws 7 ∷ withdraws 0 ∷ withdraws greatest ∷ []))
-    (leaves (refusal 9 0 ∷ refusal 9 0 ∷ refusal 9 0 ∷ []) [])
+    (leaves (refused 9 0 ∷ refused 9 0 ∷ refused 9 0 ∷ []) [])
     -- 10: two rows have ended and the third has not begun; all three stay
     ∷ shows
     (calls (submits (like-H 7 50 30) ∷ moves 11 ∷ withdraws 7 ∷ []))
-    (leaves (admitted 90 3 ∷ done ∷ refusal 10 0 ∷ []) (on 1 7 1 1 5 40 ∷ over-link 1 2 7 1 2 5 11 30 ∷ on 2 7 2 31 36 20 ∷ []))
+    (leaves (admitted 90 3 ∷ done ∷ refused 10 0 ∷ []) (on 1 7 1 1 5 40 ∷ over-link 1 2 7 1 2 5 11 30 ∷ on 2 7 2 31 36 20 ∷ []))
+    -- 10 asks the rows of that job alone
+    ∷ shows
+    (calls (submits (job-A 7 10) ∷ submits (alone 8 (task 100 30 4 0 0 0)) ∷ moves 2 ∷ withdraws 7 ∷ withdraws 8 ∷ []))
+    (leaves (admitted 20 1 ∷ admitted 40 1 ∷ done ∷ refused 10 0 ∷ done ∷ []) (on 2 7 1 1 6 20 ∷ []))
     -- when the third ends they leave
     ∷ shows
     (calls (submits (like-H 7 50 30) ∷ moves 35 ∷ withdraws 7 ∷ moves 36 ∷ withdraws 7 ∷ []))
-    (leaves (admitted 90 3 ∷ done ∷ refusal 10 0 ∷ done ∷ refusal 9 0 ∷ []) [])
+    (leaves (admitted 90 3 ∷ done ∷ refused 10 0 ∷ done ∷ refused 9 0 ∷ []) [])
     -- a withdrawal keeps the other rows in order, and what it frees serves a later job
     ∷ shows
     (calls
@@ -289,13 +290,13 @@ withdrawals-and-moves =
     -- 5 until the job has ended; then its number is free
     ∷ shows
     (calls (submits (job-A 7 10) ∷ moves 5 ∷ submits (job-A 7 20) ∷ moves 6 ∷ submits (job-A 7 20) ∷ []))
-    (leaves (admitted 20 1 ∷ done ∷ refusal 5 0 ∷ done ∷ admitted 20 1 ∷ []) (on 2 7 1 7 12 20 ∷ []))
+    (leaves (admitted 20 1 ∷ done ∷ refused 5 0 ∷ done ∷ admitted 20 1 ∷ []) (on 2 7 1 7 12 20 ∷ []))
     -- 11; the present tick is accepted
-    ∷ shows (calls (moves 5 ∷ moves 4 ∷ moves 5 ∷ [])) (leaves (done ∷ refusal 11 0 ∷ done ∷ []) [])
+    ∷ shows (calls (moves 5 ∷ moves 4 ∷ moves 5 ∷ [])) (leaves (done ∷ refused 11 0 ∷ done ∷ []) [])
     -- 12; the last tick is accepted
     ∷ shows
     (calls (moves 1_000_000_001 ∷ moves greatest ∷ moves 1_000_000_000 ∷ moves 1_000_000_000 ∷ moves 999_999_999 ∷ []))
-    (leaves (refusal 12 0 ∷ refusal 12 0 ∷ done ∷ done ∷ refusal 11 0 ∷ []) [])
+    (leaves (refused 12 0 ∷ refused 12 0 ∷ done ∷ done ∷ refused 11 0 ∷ []) [])
     ∷ []
 
 -- Placing: the ties, the order of the tasks, and the links.
@@ -345,6 +346,16 @@ placings =
     (job 7 (task 20 0 4 0 0 0 ∷ task 20 0 0 2 0 0 ∷ task 30 0 0 2 0 0 ∷ []) (message 1 2 2 ∷ message 1 3 2 ∷ []))
     96
     (on 1 7 1 0 4 40 ∷ over-link 1 2 7 1 2 4 8 20 ∷ on 2 7 2 8 10 8 ∷ over-link 1 2 7 1 3 8 12 20 ∷ on 2 7 3 12 14 8 ∷ [])
+    -- links that share their sending machine do not disturb each other
+    ∷ gives
+    (job 7 (task 20 0 4 0 0 0 ∷ task 30 0 0 5 0 0 ∷ task 40 0 0 0 5 0 ∷ []) (message 1 2 2 ∷ message 1 3 2 ∷ []))
+    178
+    (on 1 7 1 0 4 40 ∷ over-link 1 2 7 1 2 4 8 20 ∷ on 2 7 2 8 13 20 ∷ over-link 1 3 7 1 3 4 10 48 ∷ on 3 7 3 10 15 50 ∷ [])
+    -- nor do links that share their receiving machine
+    ∷ gives
+    (job 7 (task 20 0 4 0 0 0 ∷ task 20 0 0 4 0 0 ∷ task 40 0 0 0 5 0 ∷ []) (message 1 3 2 ∷ message 2 3 2 ∷ []))
+    168
+    (on 1 7 1 0 4 40 ∷ on 2 7 2 0 4 16 ∷ over-link 1 3 7 1 3 4 10 48 ∷ over-link 2 3 7 2 3 4 6 14 ∷ on 3 7 3 10 15 50 ∷ [])
     -- link 1 to 2 and link 2 to 1 do not disturb each other
     ∷ gives
     (job
@@ -359,6 +370,29 @@ placings =
     ∷ over-link 2 1 7 2 4 4 8 20
     ∷ on 1 7 4 8 10 20
     ∷ [])
+    ∷ []
+
+-- Looks at a register that holds A's row, on machine 2 from 1 to 6, and a link row from machine 1 to machine 2, from 6 to 9.
+abbrev pub looked-at : State
+looked-at = holding 0 (on 2 7 1 1 6 20 ∷ over-link 1 2 8 1 2 6 9 15 ∷ [])
+
+abbrev pub looks : List Example
+looks =
+    -- a row holds its start and not its finish
+    shows (looked looked-at 2 0) (sees Idle)
+    ∷ shows (looked looked-at 2 1) (sees (Booked (on 2 7 1 1 6 20)))
+    ∷ shows (looked looked-at 2 5) (sees (Booked (on 2 7 1 1 6 20)))
+    ∷ shows (looked looked-at 2 6) (sees Idle)
+    -- rows of other machines are not seen, nor are links, at either end
+    ∷ shows (looked looked-at 1 3) (sees Idle)
+    ∷ shows (looked looked-at 1 7) (sees Idle)
+    ∷ shows (looked looked-at 2 7) (sees Idle)
+    -- any tick may be asked
+    ∷ shows (looked looked-at 4 greatest) (sees Idle)
+    -- 13: no such machine
+    ∷ shows (looked looked-at 0 3) (sees NoMachine)
+    ∷ shows (looked looked-at 5 3) (sees NoMachine)
+    ∷ shows (looked looked-at greatest 3) (sees NoMachine)
     ∷ []
 
 -- The default tables: two machines, their rates, and the time and the rate of the link.
@@ -380,4 +414,4 @@ each-link =
 
 unfoldable pub refusal-table : List Example
 refusal-table =
-    in-order ++ (infeasible-or-late ++ (full ++ (at-the-ends ++ (badly-listed ++ (withdrawals-and-moves ++ (placings ++ each-link))))))
+    in-order ++ (infeasible-or-late ++ (full ++ (at-the-ends ++ (badly-listed ++ (withdrawals-and-moves ++ (looks ++ (placings ++ each-link)))))))

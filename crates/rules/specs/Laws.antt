@@ -1,14 +1,29 @@
 -- What the laws of proofs/ show of the definitions, in the words of document 01 and of the paper.
+-- Claims cite these words, so a reader must believe them too.
 use mathlib.Core.Path.{_≡_}
+use mathlib.Core.Logic.{_↔_}
 use mathlib.Core.Bool.{true}
-use mathlib.Core.List.{List, List·Memᴰ}
+use mathlib.Core.List.{List, [], _∷_, _++_, List·Memᴰ}
 use Prim.Native.Nat.{ℕ, _+_, _≤_, _<_}
 use Rattle.rules.specs.declared.Job.{Job}
 use Rattle.rules.specs.declared.Message.{Message}
 use Rattle.rules.specs.declared.Row.{Row}
 use Rattle.rules.specs.declared.Setup.{Setup}
-use Rattle.rules.specs.Words.{Span, Within, messages-of, task-of, run-time}
-use Rattle.rules.specs.Placing.{ready, try, trial-rows, costs}
+use Rattle.rules.specs.Words.{Span, Within, Resource, machine, link, same, resource, span, messages-of, task-of, run-time}
+use Rattle.rules.specs.Placing.{task-row, machine-for, crosses, arrival, message-booking, transfer, ready, release, message-trial, try, trial-rows, costs}
+use Rattle.rules.specs.Refusals.{running}
+
+-- Resources: a machine is itself alone, and a link is one ordered pair.
+abbrev pub Same-says : Type 0
+Same-says = (a b : Resource) → (same a b ≡ true) ↔ (a ≡ b)
+
+-- a row of machine m that holds the tick
+pub record RunsAt (m tick : ℕ) (row : Row) : Type 0 where
+  pub on : resource row ≡ machine m
+  pub within : Within tick (span row)
+
+abbrev pub Running-says : Type 0
+Running-says = (m tick : ℕ) (row : Row) → (running m tick row ≡ true) ↔ RunsAt m tick row
 
 -- a tick is taken if some span holds it
 abbrev pub Taken : List Span → ℕ → Type 0
@@ -24,6 +39,28 @@ pub record IsLeast (from len : ℕ) (spans : List Span) (tick : ℕ) : Type 0 wh
   pub is-free : Free len spans tick
   pub none-earlier : (x : ℕ) → from ≤ x → x < tick → Free len spans x → ⊥
 
+-- a resource is taken at a tick if some row on it holds the tick
+pub record TakenOn (r : Resource) (rows : List Row) (tick : ℕ) : Type 0 where
+  pub row : Row
+  pub listed : List·Memᴰ row rows
+  pub on : resource row ≡ r
+  pub within : Within tick (span row)
+
+-- `len` ticks from `tick` on meet no row of the resource
+abbrev pub FreeOn : (r : Resource) → List Row → (len tick : ℕ) → Type 0
+FreeOn r rows len tick = (x : ℕ) → tick ≤ x → x < tick + len → TakenOn r rows x → ⊥
+
+-- of the ticks that are allowed the least at which `len` ticks meet no row of the resource
+pub record IsLeastOn (r : Resource) (rows : List Row) (len : ℕ) (Allowed : ℕ → Type 0) (tick : ℕ) : Type 0 where
+  pub allowed : Allowed tick
+  pub is-free : FreeOn r rows len tick
+  pub none-earlier : (x : ℕ) → Allowed x → x < tick → FreeOn r rows len x → ⊥
+
+-- a machine of the table, by its number
+pub record IsMachine (s : Setup) (m : ℕ) : Type 0 where
+  pub first : 1 ≤ m
+  pub last : m ≤ s .table .machines
+
 -- a task of the job, by its number
 pub record IsTask (j : Job) (t : ℕ) : Type 0 where
   pub first : 1 ≤ t
@@ -36,10 +73,39 @@ pub record IsNext (j : Job) (new : List Row) (t : ℕ) : Type 0 where
   pub earliest : (u : ℕ) → IsTask j u → ready j new u ≡ true → task-of j t .deadline ≤ task-of j u .deadline
   pub lowest : (u : ℕ) → IsTask j u → ready j new u ≡ true → task-of j u .deadline ≡ task-of j t .deadline → t ≤ u
 
+-- not before the task's floor nor any arrival of a message into it, on machine m, beside these rows of the job
+pub record NotBefore (clock : ℕ) (j : Job) (new rows : List Row) (t m tick : ℕ) : Type 0 where
+  pub floor : release clock j new t ≤ tick
+  pub arrivals : (msg : Message) → List·Memᴰ msg (messages-of j) → msg .receiver ≡ t → arrival rows msg m ≤ tick
+
+-- a task's start is the least tick, not before its floor nor any arrival, at which its run time meets no row of the machine
+abbrev pub Task-starts : Type 0
+Task-starts =
+    (s : Setup) (clock : ℕ) (held : List Row) (j : Job) (new : List Row) (t m : ℕ) →
+    IsLeastOn
+    (machine m)
+    (held ++ new)
+    (run-time j t m)
+    (NotBefore clock j new (new ++ try s clock held j new t m .inputs) t m)
+    (try s clock held j new t m .own .start)
+
+-- a message's row starts at the least tick, not before its sender's finish, at which its link time meets no row of the link, those tried before it included
+abbrev pub Message-starts : Type 0
+Message-starts =
+    (s : Setup) (held : List Row) (j : Job) (new : List Row) (m : ℕ) (tried : List Row) (msg : Message) →
+    crosses msg (machine-for new (msg .sender)) m ≡ true →
+    (at : ℕ)
+    × (message-trial s held j new m tried msg ≡ message-booking s j msg (machine-for new (msg .sender)) m at ∷ [])
+    × IsLeastOn
+    (link (machine-for new (msg .sender)) m)
+    (held ++ (new ++ tried))
+    (transfer s msg (machine-for new (msg .sender)) m)
+    (λ tick. task-row new (msg .sender) .finish ≤ tick)
+    at
+
 -- the trial of a machine that is tried and is good
 pub record IsGood (s : Setup) (clock : ℕ) (held : List Row) (j : Job) (new : List Row) (t m : ℕ) : Type 0 where
-  pub first : 1 ≤ m
-  pub last : m ≤ s .table .machines
+  pub is-machine : IsMachine s m
   pub able : 0 < run-time j t m
   pub in-time : try s clock held j new t m .own .finish ≤ task-of j t .deadline
 

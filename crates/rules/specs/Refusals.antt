@@ -97,6 +97,10 @@ unfoldable pub found : Placing → List Row
 found (booked rows) = rows
 found (late t) = []
 
+-- an acceptance is number 0, with the cost and the count of the new rows
+abbrev pub admission : List Row → Answer
+admission rows = record { number = 0; task = 0; cost = costs rows; rows = length rows }
+
 module _ (s : Setup) (v : View) (j : Job) where
   unfoldable pub placing : Placing
   placing = place s (v .clock) (v .rows) j
@@ -114,7 +118,7 @@ module _ (s : Setup) (v : View) (j : Job) where
       ∷ []
 
   unfoldable pub submit-answer : Answer
-  submit-answer = judged (record { number = 0; task = 0; cost = costs (found placing); rows = length (found placing) }) submit-tests
+  submit-answer = judged (admission (found placing)) submit-tests
 
 -- Withdraw. 9: the job is not held. 10: one of its rows starts at or before the clock.
 unfoldable pub withdraw-tests : View → ℕ → List Test

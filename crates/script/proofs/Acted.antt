@@ -10,7 +10,7 @@ use borrow.Author.Tests.{le-leb, lt-leb}
 use Rattle.rules.specs.declared.Job.{Job}
 use Rattle.rules.specs.Refusals.{Call, submits, withdraws, moves}
 use Rattle.reservation.specs.declared.calls.Kind.{Kind}
-use Rattle.reservation.specs.Chains.{kind-of}
+use Rattle.reservation.specs.Kinds.{kind-of}
 use Rattle.jobtext.specs.declared.line.Line.the-variants.{Figure, Refused}
 use Rattle.jobtext.specs.declared.job.Outcome.the-variants.{Read, Stopped}
 use Rattle.jobtext.specs.declared.job.JobRead.{JobRead}

@@ -21,7 +21,7 @@ use Rattle.reservation.specs.declared.calls.Kind.{Kind}
 use Rattle.reservation.specs.declared.calls.Kind.the-variants.{Submit, Withdraw, Clock}
 use Rattle.reservation.specs.Registers.{state-of, register-of, Valid}
 use Rattle.reservation.specs.Calls.{Steps}
-use Rattle.reservation.specs.Chains.{kind-of}
+use Rattle.reservation.specs.Kinds.{kind-of}
 use Rattle.reservation.proofs.Values.{state-same}
 use Rattle.jobtext.specs.Lines.{Parsed, parsed, refused, Due, any-figure, begins, line}
 use Rattle.jobtext.specs.JobText.{job-key, job-text, blank-job}

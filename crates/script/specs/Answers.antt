@@ -17,7 +17,7 @@ use Rattle.reservation.specs.declared.calls.Kind.{Kind}
 use Rattle.reservation.specs.declared.calls.Kind.the-variants.{Submit, Withdraw, Clock}
 use Rattle.reservation.specs.declared.Register.{Register}
 use Rattle.reservation.specs.Registers.{Valid}
-use Rattle.reservation.specs.Chains.{kind-of, call-of}
+use Rattle.reservation.specs.Kinds.{kind-of, call-of}
 use Rattle.jobtext.specs.Put.{Puts}
 use Rattle.script.specs.declared.acts.Turn.{Turn}
 use Rattle.script.specs.declared.acts.Turn.the-variants.{Ended, Called, Unread}

@@ -1,6 +1,6 @@
 -- `booking::calls::apply` meets its contract: a refused call leaves the register that it was handed.
 use borrow.Author.Needs.{needs}
-use Rattle.booking.proofs.Refused.{refused-kept}
+use Rattle.reservation.proofs.Demands.{demand-1-of-code}
 use Rattle.booking.proofs.calls.apply.Statement.{statement}
 use Rattle.booking.proofs.calls.apply.Tie as tie
 
@@ -11,7 +11,7 @@ print-answer-requires : tie.Need-print-answer-requires
 print-answer-requires c κs = search needs
 
 check-refused-requires : tie.Need-check-refused-requires
-check-refused-requires c κs = refused-kept (c .before .before .pre) (c .before .apply .ensures)
+check-refused-requires c κs = demand-1-of-code (c .before .before .pre) (c .before .apply .ensures) .untouched
 
 returns : tie.Need-returns
 returns c = search needs

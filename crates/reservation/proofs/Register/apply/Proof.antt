@@ -2,7 +2,7 @@
 use mathlib.Core.Path.{sym, subst}
 use borrow.Author.Needs.{needs}
 use Rattle.reservation.specs.Calls.{Steps}
-use Rattle.reservation.specs.Chains.{kind-of}
+use Rattle.reservation.specs.Kinds.{kind-of}
 use Rattle.reservation.proofs.Register.apply.Statement.{statement}
 use Rattle.reservation.proofs.Register.apply.Tie as tie
 

@@ -15,10 +15,10 @@ abbrev μ-loop : tie.MeasureT-loop
 μ-loop machine tick self count i₀ i = count - i
 
 returns : tie.Need-returns Inv-loop μ-loop
-returns c = let a = c .before .before .before .args in sees-no-machine (a .t1) (a .machine) (a .tick) (λ range. omega arith)
+returns c = let a = c .before .before .before .args in sees-no-machine (a .t1) (a .machine) (a .tick) (λ is. omega arith)
 
 returns-2 : tie.Need-returns-2 Inv-loop μ-loop
-returns-2 c = let a = c .before .before .before .before .before .args in sees-no-machine (a .t1) (a .machine) (a .tick) (λ range. omega arith)
+returns-2 c = let a = c .before .before .before .before .before .args in sees-no-machine (a .t1) (a .machine) (a .tick) (λ is. omega arith)
 
 loop-holds : tie.Need-loop-holds Inv-loop μ-loop
 loop-holds c = none-at-first (omega arith)

@@ -2,7 +2,7 @@
 use mathlib.Core.Path.{sym, subst}
 use borrow.Author.Needs.{needs}
 use Rattle.reservation.specs.declared.calls.Kind.{Kind}
-use Rattle.reservation.specs.Chains.{kind-of}
+use Rattle.reservation.specs.Kinds.{kind-of}
 use Rattle.script.specs.Replies.{reply}
 use Rattle.script.specs.Answers.{PutsAtMost, most-for}
 use Rattle.script.proofs.replies.put_reply.Statement.{statement}

@@ -3,5 +3,5 @@ use mathlib.Core.Path.{_≡_}
 use Rattle.reservation.specs.declared.Register.{Register}
 use Rattle.reservation.specs.declared.Reply.{Reply}
 
-abbrev pub Kept : Register → Reply → Type 0
-Kept before reply = (reply .answer .number ≡ 0 → ⊥) → reply .register ≡ before
+abbrev pub Untouched : Register → Reply → Type 0
+Untouched before reply = (reply .answer .number ≡ 0 → ⊥) → reply .register ≡ before

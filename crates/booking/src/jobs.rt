@@ -119,7 +119,7 @@ fn across(volume: u64) -> [Message; MESSAGES] {
 }
 
 // All the entries that a job has room for, with these counts.
-pub fn counting(number: u64, taskcount: u64, messagecount: u64) -> Job {
+pub fn with_counts(number: u64, taskcount: u64, messagecount: u64) -> Job {
     Job {
         number: number,
         scheduling: 0,

@@ -11,7 +11,7 @@ pub fn heading(name: &[u8]) {
     io::write_all(1, b"\n");
 }
 
-fn figure(name: &[u8], n: u64) {
+pub fn figure(name: &[u8], n: u64) {
     io::write_all(1, name);
     io::print_decimal(1, n);
 }

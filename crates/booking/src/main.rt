@@ -1,5 +1,6 @@
 // Makes calls in a row on a register, each handed what the last one left, and prints their answers.
 mod calls;
+mod counting;
 mod examples;
 mod filling;
 mod jobs;
@@ -7,6 +8,8 @@ mod listing;
 mod refusals;
 
 use calls::fresh;
+use counting::at_the_limit;
+use counting::from_nothing;
 use examples::worked_examples;
 use filling::emptied;
 use filling::filled;
@@ -23,7 +26,7 @@ use refusals::looks;
 use refusals::of_moves;
 use refusals::of_withdrawals;
 
-// One register from here on: each part is handed what the last one left.
+// One register after the worked examples: each part is handed what the last one left. The tally's parts have registers of their own.
 fn main() {
     worked_examples();
     let mut left = fresh();
@@ -41,4 +44,6 @@ fn main() {
     left = refilled(left);
     left = emptied(left);
     print_state(left);
+    from_nothing();
+    at_the_limit();
 }

@@ -16,12 +16,12 @@ use reference::RefReply;
 use reference::RefSeen;
 use reservation::Register;
 use reservation::Reply;
-use reservation::tally::Ratio;
-use reservation::tally::Tally;
-use reservation::tally::counted_of;
-use reservation::tally::guarantee_ratio;
 use rules::Job;
 use rules::Seen;
+use tally::Ratio;
+use tally::Tally;
+use tally::counted_of;
+use tally::guarantee_ratio;
 ghost use Rattle.reservation.specs.Registers.{Valid};
 
 pub struct Both {

@@ -12,8 +12,8 @@ use crate::jobs::alone;
 use crate::report::print_figure;
 use crate::report::print_line;
 use reference::fresh;
-use reservation::tally::Tally;
 use rules::Job;
+use tally::Tally;
 ghost use Rattle.reservation.specs.Registers.{Valid};
 
 // A job that takes one row, on whichever machine is free first.

@@ -11,4 +11,3 @@ pub mod Scans
 pub mod Stepped
 pub mod Demands
 pub mod Demand3
-pub mod Ratios

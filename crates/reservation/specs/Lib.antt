@@ -4,4 +4,3 @@ pub mod Tests
 pub mod Calls
 pub mod Kinds
 pub mod Demands
-pub mod Tallies

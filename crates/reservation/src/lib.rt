@@ -5,7 +5,6 @@ mod ranges;
 mod removal;
 mod sight;
 mod submission;
-pub mod tally;
 mod withdrawal;
 
 use placement::trial::blank;

@@ -1,12 +1,10 @@
 // The tally of submissions: the caller lends it, and a submission adds to it there.
-use crate::Register;
-use crate::Reply;
+use reservation::Register;
+use reservation::Reply;
 use rules::Job;
 ghost use mathlib.Core.Path.{_≡_};
-ghost use Rattle.rules.specs.Refusals.{accepted as accepted-by};
 ghost use Rattle.reservation.specs.Registers.{Valid};
-ghost use Rattle.reservation.specs.Calls.{Submits};
-ghost use Rattle.reservation.specs.Tallies.{counted, RatioIs};
+ghost use Rattle.tally.specs.Tallies.{counted, RatioIs, SubmitsCounted};
 
 // How many submissions arrived, and how many of them were accepted.
 pub struct Tally {
@@ -20,7 +18,7 @@ pub enum Ratio {
     Undefined,
 }
 
-pub const MOST_COUNTED: u32 = 4_294_967_295;
+const MOST_COUNTED: u32 = 4_294_967_295;
 
 // One submission more. With either counter at its limit neither moves.
 pub fn counted_of(t: Tally, accepted: bool) -> Tally
@@ -45,7 +43,7 @@ pub fn counted_of(t: Tally, accepted: bool) -> Tally
 }
 
 // The lent tally counts one submission more.
-pub fn count(t: &mut Tally, accepted: bool)
+fn count(t: &mut Tally, accepted: bool)
     ensures { λ _. ⌜ now (t .exit) ≡ counted (now (t .entry)) accepted ⌝ }
 {
     *t = counted_of(*t, accepted);
@@ -68,9 +66,28 @@ pub fn guarantee_ratio(t: Tally) -> Ratio
 // Submits a job, and counts the submission in the lent tally.
 pub fn submit_counted(t: &mut Tally, register: Register, job: Job) -> Reply
     requires { ⌜ Valid register ⌝ }
-    ensures { λ r. ⌜ Submits register job r × (now (t .exit) ≡ counted (now (t .entry)) (accepted-by (r .answer))) ⌝ }
+    ensures { λ r. ⌜ SubmitsCounted (now (t .entry)) register job (now (t .exit)) r ⌝ }
 {
     let reply = register.submit(job);
     count(t, reply.answer.number == 0);
     reply
+}
+
+// A tally after a submission, and the reply.
+pub struct Counted {
+    pub tally: Tally,
+    pub reply: Reply,
+}
+
+// The same for a caller that has the tally by value: it is lent from here.
+pub fn submit_tallied(tally: Tally, register: Register, job: Job) -> Counted
+    requires { ⌜ Valid register ⌝ }
+    ensures { λ r. ⌜ SubmitsCounted tally register job (r .tally) (r .reply) ⌝ }
+{
+    let mut lent = tally;
+    let reply = submit_counted(&mut lent, register, job);
+    Counted {
+        tally: lent,
+        reply: reply,
+    }
 }

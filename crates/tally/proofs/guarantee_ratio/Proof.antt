@@ -1,9 +1,9 @@
--- `reservation::tally::guarantee_ratio` meets its contract: each way out is one case of `RatioIs`.
+-- `tally::guarantee_ratio` meets its contract: each way out is one case of `RatioIs`.
 use mathlib.Core.Path.{refl}
 use borrow.Author.Needs.{needs}
 use borrow.Author.Tests.{eq-eqb, ne-eqb, lt-ltb, le-ltb}
-use Rattle.reservation.proofs.tally.guarantee_ratio.Statement.{statement}
-use Rattle.reservation.proofs.tally.guarantee_ratio.Tie as tie
+use Rattle.tally.proofs.guarantee_ratio.Statement.{statement}
+use Rattle.tally.proofs.guarantee_ratio.Tie as tie
 
 returns : tie.Need-returns
 returns c =

@@ -1,10 +1,10 @@
--- `reservation::tally::counted_of` meets its contract: each way out is one case of `counted`.
+-- `tally::counted_of` meets its contract: each way out is one case of `counted`.
 use mathlib.Core.Path.{refl}
 use borrow.Author.Needs.{needs}
 use borrow.Author.Tests.{eq-eqb, ne-eqb}
-use Rattle.reservation.specs.Tallies.{most-counted, counted}
-use Rattle.reservation.proofs.tally.counted_of.Statement.{statement}
-use Rattle.reservation.proofs.tally.counted_of.Tie as tie
+use Rattle.tally.specs.Tallies.{most-counted, counted}
+use Rattle.tally.proofs.counted_of.Statement.{statement}
+use Rattle.tally.proofs.counted_of.Tie as tie
 
 returns : tie.Need-returns
 unfolding counted
@@ -28,7 +28,12 @@ returns-3 : tie.Need-returns-3
 unfolding counted
 returns-3 c =
     let t = c .before .before .before .before .before .before .before .args .t in
-    rw (ne-eqb (t .arrived) most-counted (c .before .before .before .before .before .if1 .left), ne-eqb (t .admitted) most-counted (c .before .before .before .if2 .left), c .before .before .if3 .taken) refl
+    rw (
+      ne-eqb (t .arrived) most-counted (c .before .before .before .before .before .if1 .left),
+      ne-eqb (t .admitted) most-counted
+          (c .before .before .before .if2 .left),
+      c .before .before .if3 .taken,
+    ) refl
 
 add-t6 : tie.Need-add-t6
 add-t6 c = search needs
@@ -37,7 +42,12 @@ returns-4 : tie.Need-returns-4
 unfolding counted
 returns-4 c =
     let t = c .before .before .before .before .before .before .args .t in
-    rw (ne-eqb (t .arrived) most-counted (c .before .before .before .before .if1 .left), ne-eqb (t .admitted) most-counted (c .before .before .if2 .left), c .before .if3 .left) refl
+    rw (
+      ne-eqb (t .arrived) most-counted (c .before .before .before .before .if1 .left),
+      ne-eqb (t .admitted) most-counted
+          (c .before .before .if2 .left),
+      c .before .if3 .left,
+    ) refl
 
 pub counted-of-spec : {M : Type 1} → statement M
 counted-of-spec = tie.close (tie.spec returns returns-2 add-t4 add-t5 returns-3 add-t6 returns-4)

@@ -1,7 +1,7 @@
 -- Document 01's example of a ratio, and the two ways to have none.
 use mathlib.Core.Path.{refl}
-use Rattle.reservation.specs.declared.tally.Ratio.the-variants.{Of, Undefined}
-use Rattle.reservation.specs.Tallies.{RatioIs}
+use Rattle.tally.specs.declared.Ratio.the-variants.{Of, Undefined}
+use Rattle.tally.specs.Tallies.{RatioIs}
 
 two-in-three : RatioIs (record { arrived = 3; admitted = 2 }) (Of 6_666)
 two-in-three = record { number-is = refl; value-is = refl }

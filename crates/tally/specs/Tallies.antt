@@ -1,12 +1,18 @@
--- Document 01, "The tally": the submissions that arrived, those admitted, and their ratio.
+-- Document 01, "The tally": the submissions that arrived, those admitted, and their ratio. A reader must believe this: the contracts of the tally are
+-- these words.
 use mathlib.Core.Path.{_≡_}
 use mathlib.Core.Bool.{Bool, _||_, cond}
 use mathlib.Core.Option.{Option, none, some}
 use Prim.Native.Nat.{ℕ, _+_, _*_, _/_}
 use lib.Dec.{ltb, eqb}
-use Rattle.reservation.specs.declared.tally.Tally.{Tally}
-use Rattle.reservation.specs.declared.tally.Ratio.{Ratio}
-use Rattle.reservation.specs.declared.tally.Ratio.the-variants.{Of, Undefined}
+use Rattle.rules.specs.declared.Job.{Job}
+use Rattle.rules.specs.Refusals.{accepted}
+use Rattle.reservation.specs.declared.Register.{Register}
+use Rattle.reservation.specs.declared.Reply.{Reply}
+use Rattle.reservation.specs.Calls.{Submits}
+use Rattle.tally.specs.declared.Tally.{Tally}
+use Rattle.tally.specs.declared.Ratio.{Ratio}
+use Rattle.tally.specs.declared.Ratio.the-variants.{Of, Undefined}
 
 abbrev pub most-counted : ℕ
 most-counted = 4_294_967_295
@@ -17,6 +23,11 @@ counted t accepted =
     cond (eqb (t .arrived) most-counted || eqb (t .admitted) most-counted) t (
     record { arrived = t .arrived + 1; admitted = cond accepted (t .admitted + 1) (t .admitted) }
     )
+
+-- A submission with a lent tally: it is answered as any other, and the tally that is left counts it.
+pub record SubmitsCounted (before : Tally) (r : Register) (j : Job) (after : Tally) (result : Reply) : Type 0 where
+  pub submits : Submits r j result
+  pub tally-is : after ≡ counted before (accepted (result .answer))
 
 -- 01's number and value for each case of a ratio
 abbrev pub ratio-number : Ratio → ℕ

@@ -1,0 +1,2 @@
+-- Laws of the tally.
+pub mod Ratios

@@ -1,0 +1,2 @@
+-- What the contracts of the tally cite.
+pub mod Tallies

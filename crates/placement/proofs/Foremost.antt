@@ -1,23 +1,15 @@
--- The foremost of a list, one element more at a time; numbers in a row, one more at a time.
+-- The foremost of a list, one element more at a time.
 use mathlib.Core.Path.{_≡_, refl, ap, _∙_}
-use mathlib.Core.Bool.{Bool, true, false, _&&_, cond}
+use mathlib.Core.Bool.{Bool, true, false, cond}
 use mathlib.Core.List.{List, [], _∷_, _++_, append-nil}
 use mathlib.Core.Option.{Option, none, some}
-use Prim.Native.Nat.{ℕ, zero, suc, _+_, _<_}
+use Prim.Native.Nat.{ℕ, suc, _+_}
 use native.Mathlib.Omega.{arith}
 use native.Mathlib.Numerals.{add-one}
-use lib.Dec.{eqb}
-use borrow.Author.Tests.{lt-ltb}
 use Rattle.rules.specs.Sequences.{cons-if, keep, numbers, precedes, prior, foremost}
-use Rattle.rules.proofs.Sequences.{by-test, or-left, keep-append}
+use Rattle.rules.proofs.Sequences.{by-test, keep-append, numbers-more}
 use Rattle.rules.proofs.Choice.{not-precedes-trans}
 use Rattle.rules.proofs.Order.{precedes-trans}
-
-pub numbers-more : (a n : ℕ) → numbers a (suc n) ≡ numbers a n ++ ((a + n) ∷ [])
-numbers-more a zero = let same : a ≡ a + 0 = omega arith in ap (λ b. b ∷ []) same
-numbers-more a (suc n) =
-    let same : suc a + n ≡ a + suc n = omega arith in
-    ap (λ l. a ∷ l) (numbers-more (suc a) n ∙ ap (λ b. numbers (suc a) n ++ (b ∷ [])) same)
 
 module _ (p : ℕ → Bool) (n : ℕ) where
   -- of the numbers from 1 on, those that pass a test, with one number more
@@ -35,11 +27,6 @@ module _ (p : ℕ → Bool) (n : ℕ) where
 
   pub keep-failing : p (n + 1) ≡ false → keep p (numbers 1 (n + 1)) ≡ keep p (numbers 1 n)
   keep-failing e = rw (keep-more, e, append-nil) refl
-
--- a lower first figure decides
-pub lower-precedes : (x y : ℕ) (xs ys : List ℕ) → x < y → precedes (x ∷ xs) (y ∷ ys) ≡ true
-unfolding precedes
-lower-precedes x y xs ys h = or-left _ (eqb x y && precedes xs ys) (lt-ltb x y h)
 
 module _ {A : Type 0} (f : A → List ℕ) where
   -- what an element after all others makes of their foremost: it is taken if its figures precede

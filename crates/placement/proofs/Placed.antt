@@ -18,7 +18,7 @@ use Rattle.rules.specs.declared.Message.{Message}
 use Rattle.rules.specs.declared.Job.{Job}
 use Rattle.rules.specs.declared.Setup.{Setup}
 use Rattle.rules.specs.Sequences.{all-of}
-use Rattle.rules.specs.Words.{row-limit, most-tasks, messages-of}
+use Rattle.rules.specs.Words.{row-limit, most-tasks, messages-of, named}
 use Rattle.rules.specs.Placing.{is-task, books-task, no-row, task-row, machine-of, machine-for, placed, into, ready, next-task, Trial, trial-rows, costs, try, choice, Turn, over, misses, books, turn, Placing, booked, late, place-from, place}
 use Rattle.rules.specs.Laws.{IsNext, IsKept}
 use Rattle.rules.specs.Bounds.{Sound, Between, Listed, task, message, RowInRange, largest-cost}
@@ -32,7 +32,7 @@ use Rattle.rules.proofs.Order.{in-range-count, in-range-messages, in-range-ends
 use Rattle.rules.proofs.Bounds.{InBounds, turn-in-bounds, task-figures, scheduling-figure}
 use Rattle.rules.proofs.Counted.{due-length}
 use Rattle.placement.specs.Columns.{room, Widths, Mirrors}
-use Rattle.placement.specs.Asked.{Numbered, on-machine, on-link, AskFill, AskOrder, Stands, next-of}
+use Rattle.placement.specs.Asked.{Numbered, on-machine, on-link, AskFill, AskOrder, Stands}
 use Rattle.placement.specs.Trials.{reach, SenderAt, Used, AskInputs, AskChoice, Beside, IsTrial, AttemptBounds, ColumnsLeft}
 use Rattle.placement.specs.Placements.{most-own, none-placed, AskAppend, Appended, AskPlace, placing-of, PlacementIs}
 use Rattle.placement.specs.declared.Attempt.{Attempt}
@@ -66,12 +66,12 @@ costs-at-most s (row ∷ rows) h =
     let below = costs-at-most s rows (λ r n. h r (List·Memᴰ·tail n)) in
     omega arith
 
-pub next-some : {o : Option ℕ} (t : ℕ) → (t ≡ 0 → ⊥) → next-of t ≡ o → o ≡ some t
+pub next-some : {o : Option ℕ} (t : ℕ) → (t ≡ 0 → ⊥) → named t ≡ o → o ≡ some t
 next-some zero ne e = absurd (ne refl)
 next-some (suc t) ne e = sym e
 
-pub next-none : {o : Option ℕ} {t : ℕ} → t ≡ 0 → next-of t ≡ o → o ≡ none
-next-none z e = sym e ∙ ap next-of z
+pub next-none : {o : Option ℕ} {t : ℕ} → t ≡ 0 → named t ≡ o → o ≡ none
+next-none z e = sym e ∙ ap named z
 
 pub placing-late : (rows : List Row) (t : ℕ) → 1 ≤ t → placing-of t rows ≡ late t
 placing-late rows zero h = absurd (omega arith)
@@ -291,9 +291,9 @@ module _ (s : Setup) (clock : ℕ) (held : List Row) (count : ℕ) (j : Job) (as
     turn-late {t} e c h =
         let left : j .taskcount - turns ≡ suc (j .taskcount - suc turns) = omega arith in
         let low = next-is-next j new t e .is-task .first in
-        let named : placing-of t [] ≡ late t = placing-late [] t low in
+        let missing : placing-of t [] ≡ late t = placing-late [] t low in
         record {
-          is = named ∙ sym (p .rest ∙ ap (λ k. place-from s clock H j k new) left ∙ turn-misses new (j .taskcount - suc turns) t e c);
+          is = missing ∙ sym (p .rest ∙ ap (λ k. place-from s clock H j k new) left ∙ turn-misses new (j .taskcount - suc turns) t e c);
           count-at-most = omega arith;
           long = length-replicate most-own no-row;
           cost-is = refl;

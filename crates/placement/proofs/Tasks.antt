@@ -2,42 +2,33 @@
 use mathlib.Core.Logic.{_≢_}
 use mathlib.Core.Path.{_≡_, refl, sym, ap, ap₂, _∙_}
 use mathlib.Core.Bool.{Bool, true, false, not, cond, _&&_, and-true, and-false}
-use mathlib.Core.List.{List, [], _∷_, _++_, map}
+use mathlib.Core.List.{List, [], _∷_, _++_}
 use mathlib.Core.Option.{some}
 use Prim.Native.Nat.{ℕ, zero, suc, _+_, _-_, _*_, _≤_, _<_}
 use native.Mathlib.Omega.{arith}
 use native.Mathlib.Numerals.{add-one}
 use lib.Dec.{eqb, ltb}
-use lib.ListN.{getD, take, set, replicate, length, length-map, length-set, getD-replicate}
+use lib.ListN.{getD, take, set, replicate, length, length-set, getD-replicate}
 use lib.Seq.{take-suc, getD-take, getD-set-same, getD-set-other, length-take-le}
 use borrow.Author.Tests.{eqb-true, eqb-false, lt-ltb, le-ltb, not-true, not-false}
 use Rattle.rules.specs.declared.Row.{Row}
 use Rattle.rules.specs.declared.Message.{Message}
 use Rattle.rules.specs.declared.Job.{Job}
 use Rattle.rules.specs.Sequences.{all-of, cons-if, keep, sum-of, numbers, precedes, foremost}
-use Rattle.rules.specs.Words.{most-tasks, most-messages, largest-time, horizon, messages-of, no-task, task-of}
+use Rattle.rules.specs.Words.{most-tasks, most-messages, largest-time, horizon, messages-of, named, no-task, task-of}
 use Rattle.rules.specs.Laws.{IsTask}
 use Rattle.rules.specs.Placing.{placed, ready, next-task, release}
 use Rattle.rules.proofs.Sequences.{by-test, keep-append, sum-append, getD-mem}
-use Rattle.rules.proofs.Choice.{false-precedes}
-use Rattle.placement.proofs.Foremost.{later, foremost-more, keep-next, keep-passing, keep-failing, lower-precedes}
-use Rattle.placement.specs.Asked.{AskOrder, Stands, WaitingIs, next-of}
-
--- the length of a field that is an array of structs, as what owning it tells has it
-pub length-mapped : (A B : Type 0) (f : A → B) (l : List A) (n : ℕ) → length (map f l) ≡ n → length l ≡ n
-length-mapped A B f l n e = sym (length-map l f) ∙ e
+use Rattle.rules.proofs.Choice.{false-precedes, lower-precedes}
+use Rattle.rules.proofs.Indexed.{task-at, no-message, message-at}
+use Rattle.placement.proofs.Foremost.{later, foremost-more, keep-next, keep-passing, keep-failing}
+use Rattle.placement.specs.Asked.{AskOrder, Stands, WaitingIs}
 
 -- Which tasks wait: message by message.
 
 all-append : {A : Type 0} (p : A → Bool) (a b : List A) → all-of p (a ++ b) ≡ all-of p a && all-of p b
 all-append p [] b = refl
 all-append p (x ∷ a) b = by-test (p x) (λ h. rw h (all-append p a b)) (λ h. rw h refl)
-
-abbrev no-message : Message
-no-message = record { sender = 0; receiver = 0; volume = 0 }
-
-abbrev pub message-at : Job → ℕ → Message
-message-at j i = getD (j .messages) i no-message
 
 -- of these messages, those into the task come from tasks that are placed
 abbrev all-placed : List Row → ℕ → List Message → Bool
@@ -140,18 +131,15 @@ pub record Best (j : Job) (machines finishes : List ℕ) (best deadline t : ℕ)
   pub within : t ≤ j .taskcount
   pub among : best ≤ t
   pub its : (best ≡ 0 → ⊥) → deadline ≡ task-of j best .deadline
-  pub is-best : (new : List Row) → Stands new machines finishes → next-of best ≡ foremost (figures j) (keep (ready j new) (numbers 1 t))
+  pub is-best : (new : List Row) → Stands new machines finishes → named best ≡ foremost (figures j) (keep (ready j new) (numbers 1 t))
 
 pub best-none : (j : Job) (machines finishes : List ℕ) → Best j machines finishes 0 0 0
 unfolding foremost
 best-none j machines finishes = record { within = omega arith; among = omega arith; its = λ ne. absurd (ne refl); is-best = λ new stands. refl }
 
-next-some : {t : ℕ} → (t ≡ 0 → ⊥) → next-of t ≡ some t
+next-some : {t : ℕ} → (t ≡ 0 → ⊥) → named t ≡ some t
 next-some {t = zero} ne = absurd (ne refl)
 next-some {t = suc t} ne = refl
-
-pub task-at : (j : Job) (t : ℕ) → task-of j (t + 1) ≡ getD (j .tasks) t no-task
-task-at j t = let same : t + 1 - 1 ≡ t = omega arith in ap (λ i. getD (j .tasks) i no-task) same
 
 -- whether the task after the first t is placed
 placed-next :
@@ -168,7 +156,7 @@ no-earlier :
 no-earlier j t best h k = false-precedes _ _ _ _ k (λ e. false-precedes (t + 1) best [] [] (omega arith) (λ q. absurd (omega arith)))
 
 module _ {j : Job} {machines finishes : List ℕ} {best deadline t : ℕ} (sofar : Best j machines finishes best deadline t) where
-  pub best-found : j .taskcount ≤ t → (new : List Row) → Stands new machines finishes → next-of best ≡ next-task j new
+  pub best-found : j .taskcount ≤ t → (new : List Row) → Stands new machines finishes → named best ≡ next-task j new
   unfolding next-task
   best-found all new stands =
       let same : t ≡ j .taskcount = omega arith in
@@ -208,7 +196,7 @@ module _ {j : Job} {machines finishes : List ℕ} {best deadline t : ℕ} (sofar
 
         with-more :
             (new : List Row) → Stands new machines finishes →
-            foremost (figures j) (keep (ready j new) (numbers 1 (t + 1))) ≡ some (later (figures j) (t + 1) (next-of best))
+            foremost (figures j) (keep (ready j new) (numbers 1 (t + 1))) ≡ some (later (figures j) (t + 1) (named best))
         with-more new stands =
             rw
             (keep-passing (ready j new) t (is-ready new stands), sofar .is-best new stands)
@@ -239,7 +227,7 @@ module _ {j : Job} {machines finishes : List ℕ} {best deadline t : ℕ} (sofar
             own : task-of j (t + 1) .deadline ≡ getD (j .tasks) t no-task .deadline
             own = ap (λ task. task .deadline) (task-at j t)
 
-            first : later (figures j) (t + 1) (next-of best) ≡ t + 1
+            first : later (figures j) (t + 1) (named best) ≡ t + 1
             first =
                 by-test
                 (eqb best 0)

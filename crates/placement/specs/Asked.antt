@@ -2,8 +2,7 @@
 use mathlib.Core.Path.{_≡_}
 use mathlib.Core.Bool.{Bool, true, false, not}
 use mathlib.Core.List.{List}
-use mathlib.Core.Option.{Option, none, some}
-use Prim.Native.Nat.{ℕ, zero, suc, _-_, _≤_, _<_}
+use Prim.Native.Nat.{ℕ, _-_, _≤_, _<_}
 use lib.Dec.{ltb}
 use lib.ListN.{length, getD}
 use Rattle.rules.specs.declared.Holder.{Holder}
@@ -69,8 +68,3 @@ pub record WaitingIs (j : Job) (machines finishes : List ℕ) (waits : List Bool
   pub is :
       (new : List Row) → Stands new machines finishes → (t : ℕ) → IsTask j t →
       getD waits (t - 1) false ≡ not (all-of (λ msg. placed new (msg .sender)) (into j t))
-
--- the number 0 says that no task is ready
-abbrev pub next-of : ℕ → Option ℕ
-next-of zero = none
-next-of (suc t) = some (suc t)

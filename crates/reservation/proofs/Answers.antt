@@ -15,12 +15,8 @@ use Rattle.rules.specs.Placing.{booked, late}
 use Rattle.rules.specs.Withdrawing.{admit}
 use Rattle.rules.specs.Refusals.{refuse-if, refusal, admission, first-infeasible, missed, found, placing, submit-tests, submit-answer, submits, settle, step}
 use Rattle.rules.specs.Demands.{FirstRefusal, here, later, InRange}
-use Rattle.rules.proofs.Demand1.{judged-first}
 use Rattle.rules.proofs.Admitted.{Admitted, admits, answer-passed}
-
-pub first-answers : (s : Setup) (v : View) (j : Job) {n t : ℕ} → FirstRefusal n t (submit-tests s v j) → submit-answer s v j ≡ refusal n t
-unfolding submit-answer
-first-answers s v j f = judged-first _ f
+use Rattle.feasibility.proofs.Firsts.{first-answers}
 
 -- none of 1 to 5 refuses, so that 6, 7 or 8 may be the first
 module _ (s : Setup) (v : View) (j : Job) (range : InRange s j) (free : v .held (j .number) ≡ false) where

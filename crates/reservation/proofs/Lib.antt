@@ -1,7 +1,6 @@
 -- Laws that the functions' proofs cite.
 pub mod Sums
-pub mod Ranged
-pub mod Feasibility
+pub mod Rowwise
 pub mod Sighted
 pub mod Answers
 pub mod Values

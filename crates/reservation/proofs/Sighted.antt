@@ -21,7 +21,7 @@ use Rattle.rules.proofs.Demand1.{machine-listed, demand-1-look}
 use Rattle.reservation.specs.declared.Register.{Register}
 use Rattle.reservation.specs.Registers.{state-of}
 use Rattle.reservation.specs.Calls.{Looks}
-use Rattle.reservation.proofs.Feasibility.{NoneYet, none-at-end}
+use Rattle.reservation.proofs.Rowwise.{NoneYet, none-at-end}
 
 -- Whether a row is on machine m at the tick.
 module _ (row : Row) (m tick : ℕ) where

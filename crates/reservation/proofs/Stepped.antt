@@ -14,16 +14,19 @@ use Rattle.rules.specs.declared.Job.{Job}
 use Rattle.rules.specs.declared.Answer.{Answer}
 use Rattle.rules.specs.declared.Setup.{Setup}
 use Rattle.rules.specs.Sequences.{any-of, keep}
-use Rattle.rules.specs.Words.{State, View, view, of-job, row-limit, largest-number, horizon}
+use Rattle.rules.specs.Words.{State, View, view, of-job, row-limit, horizon, named}
 use Rattle.rules.specs.Placing.{no-row, costs, booked}
 use Rattle.rules.specs.Withdrawing.{admit, withdraw, advance, remove, ended}
-use Rattle.rules.specs.Refusals.{refuse-if, outside, refusal, accepted, miscounted, out-of-range, bad-messages, first-infeasible, placing, found, submit-tests, withdraw-tests, withdraw-answer, clock-tests, clock-answer, Call, submits, withdraws, moves, settle, step}
-use Rattle.rules.specs.Demands.{FirstRefusal, here, later, passes, end}
+use Rattle.rules.specs.Refusals.{refuse-if, refusal, accepted, first-infeasible, placing, found, submit-tests, withdraw-tests, withdraw-answer}
+use Rattle.rules.specs.Refusals.{clock-tests, clock-answer, Call, submits, withdraws, moves, settle, step}
+use Rattle.rules.specs.Demands.{here, later, passes, end}
 use Rattle.rules.specs.Bounds.{Bounded}
 use Rattle.rules.proofs.Sequences.{by-test, keep-all, keep-none}
 use Rattle.rules.proofs.Demand1.{judged-first, judged-passed}
 use Rattle.rules.proofs.Struck.{step-still}
 use Rattle.rules.proofs.Bounds.{bounded-step}
+use Rattle.feasibility.specs.Tests.{EarlyIs}
+use Rattle.feasibility.proofs.Firsts.{first-answers}
 use Rattle.placement.specs.Columns.{ColumnOf}
 use Rattle.placement.specs.Placements.{most-own, none-placed, placing-of, AskPlace, PlacementIs}
 use Rattle.placement.specs.declared.place.Placement.{Placement}
@@ -31,10 +34,9 @@ use Rattle.placement.proofs.Placed.{costs-at-most, placing-late, next-some, nex
 use Rattle.reservation.specs.declared.Register.{Register}
 use Rattle.reservation.specs.Registers.{state-of, register-of, Valid}
 use Rattle.reservation.specs.declared.submission.Verdict.{Verdict}
-use Rattle.reservation.specs.Calls.{Steps, EarlyIs, AskAdmit, Admits, refuses, Settles, Judges, RemovalIs, no-removal}
-use Rattle.reservation.specs.Tests.{named}
+use Rattle.reservation.specs.Calls.{Steps, AskAdmit, Admits, refuses, Settles, Judges, RemovalIs, no-removal}
 use Rattle.reservation.proofs.Values.{register-same, register-valid, blank-rest}
-use Rattle.reservation.proofs.Answers.{first-answers, answer-6, answer-7, answer-8, answer-0, admitted-left}
+use Rattle.reservation.proofs.Answers.{answer-6, answer-7, answer-8, answer-0, admitted-left}
 
 module _ {r : Register} (valid : Valid r) (c : Call) (a : Answer) (is : step (r .setup) (state-of r) c .answer ≡ a) where
   -- a refusal leaves the very same register
@@ -58,38 +60,6 @@ module _ {r : Register} (valid : Valid r) (c : Call) (a : Answer) (is : step (r 
         (valid .sound)
         (bounded-step (r .setup) (valid .sound) (state-of r) c (valid .bounded)));
   }
-
--- Refusals 1 to 4.
-
-module _ {s : Setup} {j : Job} where
-  abbrev first-is : (n : ℕ) → ((v : View) → FirstRefusal n 0 (submit-tests s v j)) → (n ≡ 0 → ⊥) → EarlyIs s j n
-  first-is n f ne = record { refused = λ _ v. first-answers s v j (f v); in-range = λ z. absurd (ne z) }
-
-  pub early-1 : outside 1 largest-number (j .number) ≡ true → EarlyIs s j 1
-  unfolding submit-tests
-  early-1 a = first-is 1 (λ v. here refl (ap refuse-if a)) (λ z. omega arith)
-
-  module _ (a : outside 1 largest-number (j .number) ≡ false) where
-    pub early-2 : miscounted j ≡ true → EarlyIs s j 2
-    unfolding submit-tests
-    early-2 b = first-is 2 (λ v. later (ap refuse-if a) (here refl (ap refuse-if b))) (λ z. omega arith)
-
-    module _ (b : miscounted j ≡ false) where
-      pub early-3 : out-of-range s j ≡ true → EarlyIs s j 3
-      unfolding submit-tests
-      early-3 c = first-is 3 (λ v. later (ap refuse-if a) (later (ap refuse-if b) (here refl (ap refuse-if c)))) (λ z. omega arith)
-
-      module _ (c : out-of-range s j ≡ false) where
-        pub early-4 : bad-messages j ≡ true → EarlyIs s j 4
-        unfolding submit-tests
-        early-4 d =
-            first-is
-            4
-            (λ v. later (ap refuse-if a) (later (ap refuse-if b) (later (ap refuse-if c) (here refl (ap refuse-if d)))))
-            (λ z. omega arith)
-
-        pub early-0 : bad-messages j ≡ false → EarlyIs s j 0
-        early-0 d = record { refused = λ ne. absurd (ne refl); in-range = λ _. record { number = a; counts = b; figures = c; messages = d } }
 
 -- Rows to admit.
 

@@ -3,7 +3,7 @@ use Prim.Native.Nat.{ℕ, _+_, _*_, _<_, _≤_}
 use native.Mathlib.Omega.{arith}
 use mir.Val.{Fits}
 use mir.Syntax.{w64}
-use Rattle.rules.specs.Words.{row-limit, horizon, largest-time}
+use Rattle.rules.specs.Words.{row-limit}
 use Rattle.placement.specs.Placements.{most-own}
 
 -- a turn for each row held
@@ -25,7 +25,3 @@ behind-fits n h = omega arith
 
 pub rows-fit : (n : ℕ) → n ≤ row-limit → Fits w64 n
 rows-fit n h = omega arith
-
--- a run from the clock
-pub run-fits : (a b : ℕ) → a ≤ horizon → b ≤ largest-time → Fits w64 (a + b)
-run-fits a b h k = omega arith

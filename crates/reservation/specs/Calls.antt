@@ -1,6 +1,6 @@
 -- One definition for each call: how its arguments and its result are related.
 use mathlib.Core.Path.{_≡_}
-use mathlib.Core.Bool.{Bool, true, false}
+use mathlib.Core.Bool.{Bool, false}
 use mathlib.Core.List.{List, _++_}
 use Prim.Native.Nat.{ℕ, _+_, _*_, _≤_, _<_}
 use lib.Dec.{leb}
@@ -8,14 +8,13 @@ use lib.ListN.{length, getD, take, replicate}
 use Rattle.rules.specs.declared.Row.{Row}
 use Rattle.rules.specs.declared.Job.{Job}
 use Rattle.rules.specs.declared.Seen.{Seen}
-use Rattle.rules.specs.declared.Setup.{Setup}
 use Rattle.rules.specs.Sequences.{any-of, keep}
-use Rattle.rules.specs.Words.{View, view, of-job, row-limit}
+use Rattle.rules.specs.Words.{view, of-job, row-limit}
 use Rattle.rules.specs.Placing.{no-row}
 use Rattle.rules.specs.Withdrawing.{remove, ended}
-use Rattle.rules.specs.Refusals.{Call, submits, withdraws, moves, step, look, refusal, submit-answer}
+use Rattle.rules.specs.Refusals.{Call, submits, withdraws, moves, step, look, refusal}
 use Rattle.rules.specs.Bounds.{largest-cost}
-use Rattle.rules.specs.Demands.{InRange, SeenBy}
+use Rattle.rules.specs.Demands.{SeenBy}
 use Rattle.placement.specs.Columns.{ColumnOf}
 use Rattle.placement.specs.Placements.{most-own, none-placed}
 use Rattle.placement.specs.declared.place.Placement.{Placement}
@@ -46,11 +45,6 @@ pub record Looks (r : Register) (m tick : ℕ) (seen : Seen) : Type 0 where
   pub seen-by : SeenBy (r .setup) (view (state-of r)) m tick seen
 
 -- Parts of a submission.
-
--- the first of refusals 1 to 4: the answer whatever the clock and the rows
-pub record EarlyIs (s : Setup) (j : Job) (number : ℕ) : Type 0 where
-  pub refused : (number ≡ 0 → ⊥) → (v : View) → submit-answer s v j ≡ refusal number 0
-  pub in-range : number ≡ 0 → InRange s j
 
 pub record AskAdmit (r : Register) (found : Placement) : Type 0 where
   pub valid : Valid r

@@ -1,6 +1,5 @@
 -- What the register's contracts cite beside the rules.
 pub mod Registers
-pub mod Tests
 pub mod Calls
 pub mod Kinds
 pub mod Demands

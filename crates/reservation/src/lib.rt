@@ -1,7 +1,6 @@
 // The register: booked rows, a clock and a total, changed by calls alone.
 pub mod calls;
-mod feasible;
-mod ranges;
+mod held;
 mod removal;
 mod sight;
 mod submission;
@@ -9,6 +8,7 @@ mod withdrawal;
 
 use placement::trial::blank;
 use rules::Answer;
+use rules::HORIZON;
 use rules::MESSAGES;
 use rules::ROWS;
 use rules::Row;
@@ -53,7 +53,7 @@ pub fn numbered(number: u64, task: u64) -> Answer
 impl Register {
     pub const ROWS: usize = ROWS;
 
-    pub const HORIZON: u64 = 1_000_000_000;
+    pub const HORIZON: u64 = HORIZON;
 
     pub const TASKS: usize = TASKS;
 

@@ -1,13 +1,10 @@
 // Submission: the tests in their order, then the rows of the job go after the held ones.
 use crate::Register;
 use crate::Reply;
-use crate::feasible::first_infeasible;
-use crate::feasible::is_held;
+use crate::held::is_held;
 use crate::numbered;
-use crate::ranges::bad_messages;
-use crate::ranges::miscounted;
-use crate::ranges::number_outside;
-use crate::ranges::out_of_range;
+use feasibility::early;
+use feasibility::first_infeasible;
 use placement::HELD;
 use placement::SPANS;
 use placement::columns::fill;
@@ -16,12 +13,9 @@ use placement::place::place;
 use placement::place::without_rows;
 use rules::Answer;
 use rules::Job;
-use rules::Setup;
 ghost use mathlib.Core.Path.{_≡_};
-ghost use Prim.Native.Nat.{_≤_};
-ghost use Rattle.rules.specs.Words.{most-machines};
 ghost use Rattle.reservation.specs.Registers.{Valid};
-ghost use Rattle.reservation.specs.Calls.{Submits, EarlyIs, refuses, AskSettle, Settles, Judges, AskAdmit, Admits};
+ghost use Rattle.reservation.specs.Calls.{Submits, refuses, AskSettle, Settles, Judges, AskAdmit, Admits};
 
 // The answer to a submission, and the rows that it admits: none if it refuses.
 struct Verdict {
@@ -36,26 +30,6 @@ fn refused(number: u64, task: u64) -> Verdict
         answer: numbered(number, task),
         found: without_rows(0),
     }
-}
-
-// The first of refusals 1 to 4, which need neither clock nor rows; 0 if none applies.
-fn early(s: Setup, job: Job) -> u64
-    requires { ⌜ s .table .machines ≤ most-machines ⌝ }
-    ensures { λ r. ⌜ EarlyIs s job r ⌝ }
-{
-    if number_outside(job.number) {
-        return 1;
-    }
-    if miscounted(job) {
-        return 2;
-    }
-    if out_of_range(s, job) {
-        return 3;
-    }
-    if bad_messages(job) {
-        return 4;
-    }
-    0
 }
 
 // Refusals 7 and 8, and admission: what placing found, beside so many rows held.

@@ -1,7 +1,7 @@
 // Withdrawals and clock moves.
 use crate::Register;
 use crate::Reply;
-use crate::feasible::is_held;
+use crate::held::is_held;
 use crate::numbered;
 use crate::removal::figures_of;
 use crate::removal::rows_ended;
@@ -15,7 +15,8 @@ ghost use Rattle.rules.specs.Refusals.{withdraws, moves};
 ghost use Rattle.reservation.specs.Registers.{Valid};
 ghost use Rattle.reservation.specs.Calls.{BegunIs, RemovalIs, no-removal, Withdraws, Moves};
 
-// What a withdrawal or a clock move answers, the clock that it leaves, and which rows leave. The register that is left is made from it at one place: a register is large.
+// What a withdrawal or a clock move answers, the clock that it leaves, and which rows leave.
+// The register that is left is made from it at one place: a register is large.
 struct Removal {
     number: u64,
     clock: u64,

@@ -4,7 +4,7 @@ use mathlib.Core.Logic.{⊎-elim}
 use mathlib.Core.Bool.{Bool, true, false, _&&_, cond}
 use mathlib.Core.List.{List, [], _∷_, map, List·Memᴰ, List·Memᴰ·head, List·Memᴰ·tail, List·Memᴰ·cases-cons, List·Memᴰ·not-nil}
 use mathlib.Core.Option.{Option, none, some}
-use Prim.Native.Nat.{ℕ, _≤_}
+use Prim.Native.Nat.{ℕ, _≤_, _<_}
 use native.Mathlib.Omega.{arith}
 use lib.Dec.{ltb, eqb}
 use borrow.Author.Tests.{ltb-true, ltb-false, leb-true, eqb-true, lt-ltb, le-ltb, le-leb, eq-eqb}
@@ -15,7 +15,7 @@ use Rattle.rules.specs.Sequences.{keep, precedes, prior, foremost}
 use Rattle.rules.specs.Words.{machines, task-numbers, task-of, run-time}
 use Rattle.rules.specs.Placing.{ready, next-task, Trial, trial-rows, costs, machine-of, try, good, good-trials, choice}
 use Rattle.rules.specs.Laws.{IsTask, IsNext, IsGood, IsKept}
-use Rattle.rules.proofs.Sequences.{by-test, clash, or-cases, or-false, and-true, and-cases}
+use Rattle.rules.proofs.Sequences.{by-test, clash, or-cases, or-left, or-false, and-true, and-cases}
 use Rattle.rules.proofs.Sequences.{keep-mem, mem-keep, mem-map, map-mem, mem-numbers, numbers-mem}
 
 -- The order by figures.
@@ -26,6 +26,11 @@ unfolding precedes
 precedes-false {x} {y} xs ys e =
     let h = or-false (ltb x y) (eqb x y && precedes xs ys) e in
     (ltb-false x y (h .0), λ q. ⊎-elim (clash (eq-eqb x y q)) (λ r. r) (and-cases (eqb x y) (precedes xs ys) (h .1)))
+
+-- a lower first figure decides
+pub lower-precedes : (x y : ℕ) (xs ys : List ℕ) → x < y → precedes (x ∷ xs) (y ∷ ys) ≡ true
+unfolding precedes
+lower-precedes x y xs ys h = or-left _ (eqb x y && precedes xs ys) (lt-ltb x y h)
 
 pub false-precedes : (x y : ℕ) (xs ys : List ℕ) → y ≤ x → (x ≡ y → precedes xs ys ≡ false) → precedes (x ∷ xs) (y ∷ ys) ≡ false
 unfolding precedes

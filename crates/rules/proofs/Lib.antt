@@ -2,6 +2,7 @@
 pub mod Sequences
 pub mod Pairs
 pub mod Choice
+pub mod Indexed
 pub mod LeastTick
 pub mod Resources
 pub mod Steps

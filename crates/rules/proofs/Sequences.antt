@@ -230,6 +230,13 @@ pub length-numbers : (a n : ℕ) → length (numbers a n) ≡ n
 length-numbers a zero = refl
 length-numbers a (suc n) = ap suc (length-numbers (suc a) n)
 
+-- one number more
+pub numbers-more : (a n : ℕ) → numbers a (suc n) ≡ numbers a n ++ ((a + n) ∷ [])
+numbers-more a zero = let same : a ≡ a + 0 = omega arith in ap (λ b. b ∷ []) same
+numbers-more a (suc n) =
+    let same : suc a + n ≡ a + suc n = omega arith in
+    ap (λ l. a ∷ l) (numbers-more (suc a) n ∙ ap (λ b. numbers (suc a) n ++ (b ∷ [])) same)
+
 pub mem-numbers : (a n : ℕ) {x : ℕ} → List·Memᴰ x (numbers a n) → (a ≤ x) × (x < a + n)
 mem-numbers a zero m = absurd (List·Memᴰ·not-nil m)
 mem-numbers a (suc n) {x} m =

@@ -1,7 +1,8 @@
 -- Document 01, "Words and ranges".
 use mathlib.Core.Bool.{Bool, false, _&&_}
 use mathlib.Core.List.{List, [], _∷_}
-use Prim.Native.Nat.{ℕ, _+_, _-_, _*_, _≤_, _<_, max, min}
+use mathlib.Core.Option.{Option, none, some}
+use Prim.Native.Nat.{ℕ, zero, suc, _+_, _-_, _*_, _≤_, _<_, max, min}
 use lib.Dec.{ltb, eqb}
 use lib.ListN.{getD, take}
 use Rattle.rules.specs.declared.Holder.{Holder}
@@ -129,6 +130,11 @@ messages-of j = take (j .messagecount) (j .messages)
 
 abbrev pub task-numbers : Job → List ℕ
 task-numbers j = numbers 1 (j .taskcount)
+
+-- the task that a number names: 0 names none
+abbrev pub named : ℕ → Option ℕ
+named zero = none
+named (suc t) = some (suc t)
 
 abbrev pub no-task : Task
 no-task = record { deadline = 0; dispatch = 0; runs = [] }

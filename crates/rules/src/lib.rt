@@ -13,6 +13,9 @@ pub const MESSAGES: usize = 32;
 // The most rows that a register holds.
 pub const ROWS: usize = 256;
 
+// The last tick that a deadline or the clock may name.
+pub const HORIZON: u64 = 1_000_000_000;
+
 // A task of a job. The deadline is a tick of the clock; a run time of 0 says that the machine cannot run it.
 pub struct Task {
     pub deadline: u64,

@@ -3,7 +3,8 @@ use Prim.Native.Nat.{_-_, _<_, _≤_}
 use native.Mathlib.Omega.{arith}
 use Rattle.rules.specs.Words.{most-tasks}
 use Rattle.placement.proofs.Sums.{less-next, turn-below, turn-fits, message-fits, standing-fits, sender-below}
-use Rattle.placement.proofs.Tasks.{length-mapped, message-at, Waited, waited-none, waited-placed, waited-unplaced, waited-all, sender-within, receiver-within}
+use Rattle.rules.proofs.Indexed.{length-mapped, message-at}
+use Rattle.placement.proofs.Tasks.{Waited, waited-none, waited-placed, waited-unplaced, waited-all, sender-within, receiver-within}
 use Rattle.placement.proofs.order.waiting.Statement.{statement}
 use Rattle.placement.proofs.order.waiting.Tie as tie
 

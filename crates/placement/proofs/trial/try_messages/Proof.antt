@@ -8,10 +8,10 @@ use borrow.Author.Tests.{not-true, not-false}
 use Rattle.rules.specs.declared.Message.{Message}
 use Rattle.rules.specs.Words.{most-messages, most-tasks}
 use Rattle.rules.specs.Placing.{crosses}
+use Rattle.rules.proofs.Indexed.{length-mapped}
 use Rattle.placement.specs.Columns.{room}
 use Rattle.placement.specs.Asked.{Numbered}
 use Rattle.placement.proofs.Sums.{less-next, turn-below, turn-fits, message-fits, row-fits, room-fits, cost-fits, standing-fits, sender-below}
-use Rattle.placement.proofs.Tasks.{length-mapped}
 use Rattle.placement.proofs.Gathered.{Gathered, gathered-none, gathered-other-next, gathered-without-next, gathered-with-next, gathered-all}
 use Rattle.placement.proofs.Gathered.{sender-listed, room-left, ask-input, input-fits}
 use Rattle.placement.proofs.Chaining.{chained-kept}

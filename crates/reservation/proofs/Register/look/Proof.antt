@@ -3,7 +3,7 @@ use mathlib.Core.Path.{sym, _∙_}
 use Prim.Native.Nat.{_-_}
 use native.Mathlib.Omega.{arith}
 use Rattle.rules.specs.Refusals.{running}
-use Rattle.reservation.proofs.Feasibility.{NoneYet, none-at-first, none-more}
+use Rattle.reservation.proofs.Rowwise.{NoneYet, none-at-first, none-more}
 use Rattle.reservation.proofs.Sighted.{sees-no-machine, sees-idle, sees-row}
 use Rattle.reservation.proofs.Register.look.Statement.{statement}
 use Rattle.reservation.proofs.Register.look.Tie as tie

@@ -1,0 +1,2 @@
+-- What the contracts of the tests cite beside the rules.
+pub mod Tests

@@ -16,7 +16,7 @@ use Rattle.jobtext.specs.declared.job.Outcome.the-variants.{Read, Stopped}
 use Rattle.jobtext.specs.declared.job.JobRead.{JobRead}
 use Rattle.jobtext.specs.Lines.{Parsed, parsed, refused, Due, any-figure, begins, line}
 use Rattle.jobtext.specs.JobText.{job-key, job-text}
-use Rattle.jobtext.specs.Answers.{line-said, answered, Reads}
+use Rattle.jobtext.specs.Reader.{line-said, answered, Reads}
 use Rattle.jobtext.proofs.Begun.{key-fits}
 use Rattle.jobtext.proofs.Progress.{line-within, line-read, line-refused}
 use Rattle.jobtext.proofs.Staged.{job-within}

@@ -4,7 +4,8 @@ use mathlib.Core.List.{List, [], _++_}
 use Prim.Native.Nat.{ℕ, _+_, _≤_}
 use native.Mathlib.Omega.{arith}
 use lib.ListN.{length, length-append}
-use Rattle.jobtext.specs.Put.{Puts, PutsField, field}
+use Rattle.jobtext.specs.Figures.{field}
+use Rattle.jobtext.specs.Put.{Puts, PutsField}
 use Rattle.script.specs.Answers.{PutsAtMost}
 use Rattle.jobtext.proofs.Put.{puts-then, puts-long, put-none}
 

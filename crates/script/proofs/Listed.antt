@@ -17,7 +17,8 @@ use Rattle.rules.specs.Bounds as Bounds
 use Rattle.rules.proofs.Sequences.{getD-mem}
 use Rattle.reservation.specs.declared.Register.{Register}
 use Rattle.reservation.specs.Registers.{state-of, Valid}
-use Rattle.jobtext.specs.Put.{Puts, joined, field}
+use Rattle.jobtext.specs.Figures.{joined, field}
+use Rattle.jobtext.specs.Put.{Puts}
 use Rattle.jobtext.proofs.Put.{puts-then}
 use Rattle.script.specs.Listing.{clock-key, total-key, held-key, row-bytes, sorted, heading, listing}
 use Rattle.script.specs.Answers.{Coded, task, message, AskOrder, OrderIs, order-number, PutsAtMost, most-row}

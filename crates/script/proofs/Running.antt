@@ -25,7 +25,8 @@ use Rattle.reservation.specs.Chains.{kind-of}
 use Rattle.reservation.proofs.Values.{state-same}
 use Rattle.jobtext.specs.Lines.{Parsed, parsed, refused, Due, any-figure, begins, line}
 use Rattle.jobtext.specs.JobText.{job-key, job-text, blank-job}
-use Rattle.jobtext.specs.Put.{Puts, field}
+use Rattle.jobtext.specs.Figures.{field}
+use Rattle.jobtext.specs.Put.{Puts}
 use Rattle.jobtext.proofs.Progress.{line-within}
 use Rattle.jobtext.proofs.Staged.{job-within}
 use Rattle.jobtext.proofs.Numbers.{by-less}

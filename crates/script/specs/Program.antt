@@ -12,7 +12,7 @@ use Rattle.rules.specs.Words.{State, fresh}
 use Rattle.rules.specs.Refusals.{Call, step, answers, after}
 use Rattle.rules.specs.Journal.{Journal, empty, journal-step, rows-in, journal-total}
 use Rattle.rules.specs.Demands.{journal-left, Demand3}
-use Rattle.jobtext.specs.Put.{field}
+use Rattle.jobtext.specs.Figures.{field}
 use Rattle.script.specs.Acts.{ended, call, unread, act}
 use Rattle.script.specs.Replies.{refused-key, reply, stop-line}
 use Rattle.script.specs.Listing.{listing}

@@ -4,8 +4,7 @@ use mathlib.Core.Option.{Option, none, some}
 use Prim.Native.Nat.{ℕ}
 use Rattle.rules.specs.declared.Answer.{Answer}
 use Rattle.rules.specs.Refusals.{Call, submits, withdraws, moves}
-use Rattle.jobtext.specs.Figures.{bytes}
-use Rattle.jobtext.specs.Put.{field}
+use Rattle.jobtext.specs.Figures.{bytes, field}
 
 abbrev pub answer-key : List ℕ
 answer-key = bytes "answer="

@@ -5,7 +5,7 @@ use rules::Answer;
 ghost use Prim.Native.Nat.{_+_, _≤_};
 ghost use lib.ListN.{length};
 ghost use mathlib.Core.List.{_++_};
-ghost use Rattle.jobtext.specs.Put.{field};
+ghost use Rattle.jobtext.specs.Figures.{field};
 ghost use Rattle.script.specs.Replies.{answer-key, task-key, cost-key, rows-key};
 ghost use Rattle.script.specs.Answers.{PutsAtMost, ReplyPuts, most-reply};
 

@@ -5,7 +5,7 @@ use Prim.Native.Nat.{ℕ}
 use native.Mathlib.Omega.{arith}
 use lib.ListN.{length, drop, length-drop}
 use borrow.Author.Needs.{needs}
-use Rattle.jobtext.specs.Answers.{Reads}
+use Rattle.jobtext.specs.Reader.{Reads}
 use Rattle.jobtext.proofs.Lined.{part}
 use Rattle.script.specs.declared.acts.Turn.the-variants.{Unread}
 use Rattle.script.proofs.Acted.{said-turn, job-read, job-read-within, job-unread}

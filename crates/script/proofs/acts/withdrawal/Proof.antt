@@ -9,7 +9,7 @@ use Rattle.rules.specs.Refusals.{withdraws}
 use Rattle.reservation.specs.declared.calls.Kind.the-variants.{Withdraw}
 use Rattle.jobtext.specs.Lines.{any-figure, line}
 use Rattle.jobtext.specs.JobText.{job-key}
-use Rattle.jobtext.specs.Answers.{line-said}
+use Rattle.jobtext.specs.Reader.{line-said}
 use Rattle.jobtext.proofs.Lined.{part}
 use Rattle.script.specs.declared.acts.Turn.the-variants.{Unread}
 use Rattle.script.proofs.Acted.{said-turn, said-call, number-read, number-unread, number-within}
@@ -18,7 +18,7 @@ use Rattle.script.proofs.acts.withdrawal.Tie as tie
 
 -- the line was read of the part from its first byte on
 reads : (c : tie.After-read-line) → c .read-line .result ≡ line-said (line (any-figure job-key) (drop (c .before .before .before .before .args .from) (c .before .before .before .before .args .input .now)) 0)
-reads c = c .read-line .ensures ∙ ap (λ (t : List ℕ). line-said (line (any-figure job-key) t 0)) (part (c .before .before .before .before .args .input .now) (c .before .before .before .before .args .from))
+reads c = c .read-line .ensures .answer-is ∙ ap (λ (t : List ℕ). line-said (line (any-figure job-key) t 0)) (part (c .before .before .before .before .args .input .now) (c .before .before .before .before .args .from))
 
 sub-read-line : tie.Need-sub-read-line
 sub-read-line c = search needs

@@ -13,7 +13,8 @@ use Rattle.jobtext.specs.declared.line.Line.{Line}
 use Rattle.jobtext.specs.declared.line.Line.the-variants.{Figure, Refused}
 use Rattle.jobtext.specs.Lines.{Parsed, parsed, refused, followed, Due, line, lines}
 use Rattle.jobtext.specs.JobText.{times, groups, filled}
-use Rattle.jobtext.specs.Answers.{line-said, reached, Group}
+use Rattle.jobtext.specs.Reader.{line-said}
+use Rattle.jobtext.specs.Parts.{stopped, Group}
 use Rattle.jobtext.proofs.Progress.{onto, line-read, line-refused, lines-next, lines-refused, Progress, starts, stops, group-on, group-stops, ends, outcome-read, outcome-stopped, lines-whole}
 
 -- the remaining lengths
@@ -131,10 +132,10 @@ module _ {A : Type 0} (said : List ℕ → A) (dues : List Due) (text : List ℕ
   -- a refused line, and the answer that hands its refusal up
   pub refused-group :
       {figures : List ℕ} {due : Due} {left : List Due} {at : ℕ} (answer : Line) (outcome : Outcome) (value : A) (number place : ℕ) →
-      Progress dues text from figures (due ∷ left) at → answer ≡ line-said (line due text at) → answer ≡ Refused number place → outcome ≡ reached answer →
+      Progress dues text from figures (due ∷ left) at → answer ≡ line-said (line due text at) → answer ≡ Refused number place → outcome ≡ stopped answer →
       Group said dues text from outcome value
   refused-group answer outcome value number place p e r o =
-      stopped-group outcome value number place (stops p (sym r ∙ e)) (o ∙ ap reached r)
+      stopped-group outcome value number place (stops p (sym r ∙ e)) (o ∙ ap stopped r)
 
 -- the rest of the lines read as a group
 pub rest-group :

@@ -4,15 +4,15 @@ use mathlib.Core.Bool.{Bool, true, false, not, _&&_, _||_}
 use mathlib.Core.List.{List, [], _∷_}
 use Prim.Native.Nat.{ℕ, zero, _≤_, _<_}
 use native.Mathlib.Omega.{arith}
-use lib.Dec.{ltb, leb, eqb}
+use lib.Dec.{ltb, eqb}
 use lib.ListN.{length, getD, drop, drop-of-length-le}
 use lib.Seq.{drop-cons}
 use borrow.Author.Tests.{ltb-true, ltb-false, le-leb, lt-leb, ne-eqb}
 use Rattle.rules.proofs.Sequences.{by-test, clash}
 use Rattle.jobtext.specs.declared.line.Digits.{Digits}
 use Rattle.jobtext.specs.Figures.{line-feed, is-digit}
-use Rattle.jobtext.specs.Lines.{begins, leading-digits, well-written}
-use Rattle.jobtext.specs.Answers.{ScanIs, NumberIs, is-number}
+use Rattle.jobtext.specs.Lines.{begins, leading-digits, well-written, is-number}
+use Rattle.jobtext.specs.Parts.{ScanIs, NumberIs}
 
 -- one number is below another, or it is not
 pub by-less {ℓ} : {C : Type ℓ} (a b : ℕ) → (a < b → C) → (b ≤ a → C) → C

@@ -10,12 +10,11 @@ use borrow.Author.Tests.{ltb-false, leb-true}
 use Rattle.rules.specs.Refusals.{outside}
 use Rattle.rules.specs.Sequences.{sum-of}
 use Rattle.rules.proofs.Sequences.{by-test, and-true, or-false}
-use Rattle.jobtext.specs.declared.line.Line.{Line}
 use Rattle.jobtext.specs.declared.line.Line.the-variants.{Figure, Refused}
 use Rattle.jobtext.specs.declared.job.Outcome.the-variants.{Read, Stopped}
 use Rattle.jobtext.specs.Figures.{zero-digit, line-feed, value}
-use Rattle.jobtext.specs.Lines.{Parsed, parsed, refused, followed, Due, any-figure, begins, leading-digits, well-written, figure, line, lines}
-use Rattle.jobtext.specs.Answers.{line-said, outcome-said, is-number}
+use Rattle.jobtext.specs.Lines.{Parsed, parsed, refused, followed, Due, any-figure, begins, leading-digits, well-written, figure, line, lines, is-number}
+use Rattle.jobtext.specs.Reader.{line-said, outcome-said}
 use Rattle.jobtext.proofs.Begun.{key-fits}
 
 -- a parsed value and the rest of it

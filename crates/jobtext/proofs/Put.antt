@@ -1,14 +1,14 @@
 -- Writing into a buffer, byte by byte and piece by piece.
 use mathlib.Core.Path.{_≡_, refl, sym, ap, _∙_}
 use mathlib.Core.List.{List, [], _∷_, _++_, append-assoc, append-nil}
-use Prim.Native.Nat.{ℕ, zero, suc, _+_, _-_, _/_, _%_, _^_, _≤_, _<_}
+use Prim.Native.Nat.{ℕ, suc, _+_, _-_, _/_, _%_, _^_, _≤_, _<_}
 use native.Mathlib.Nat.{add-zero}
 use native.Mathlib.Omega.{arith}
 use native.Mathlib.Numerals.{add-one}
 use lib.ListN.{length, getD, take, drop, set, length-append, length-take, length-drop, length-set, take-append-drop}
 use lib.Seq.{paste, paste-zero, paste-suc, take-length, take-suc, take-at, drop-drop, set-at, drop-append-add}
-use Rattle.jobtext.specs.Figures.{decimal, line-feed}
-use Rattle.jobtext.specs.Put.{overwritten, Puts, field}
+use Rattle.jobtext.specs.Figures.{decimal, line-feed, field}
+use Rattle.jobtext.specs.Put.{overwritten, Puts}
 use Rattle.jobtext.proofs.Decimals.{decimal-small, decimal-step, decimal-some, word-length}
 
 -- Bytes copied one by one.

@@ -13,10 +13,9 @@ use Rattle.rules.specs.declared.Job.{Job}
 use Rattle.rules.specs.Words.{most-tasks, most-messages}
 use Rattle.rules.specs.Sequences.{all-of}
 use Rattle.rules.proofs.Sequences.{and-true, and-both, mem-all, mem-getD}
-use Rattle.jobtext.specs.Figures.{line-feed, is-digit, decimal}
+use Rattle.jobtext.specs.Figures.{line-feed, is-digit, decimal, joined}
 use Rattle.jobtext.specs.Lines.{parsed, followed, Due, largest-figure, any-figure, leading-digits, figure, line, lines, written-line, written-lines}
 use Rattle.jobtext.specs.JobText.{job-key, sched-key, tasks-key, messages-key, head-lines, task-lines, count-lines, message-lines, times, groups, task-said, message-said, blank-task, blank-message, job-said, job-text}
-use Rattle.jobtext.specs.Put.{joined}
 use Rattle.jobtext.specs.Laws.{task-figures, message-figures, job-figures, written-job, Writable, blanked, Reads-back}
 use Rattle.jobtext.proofs.Begun.{begins-own}
 use Rattle.jobtext.proofs.Scanned.{digit-below}

@@ -13,9 +13,8 @@ use Rattle.rules.specs.Refusals.{outside}
 use Rattle.rules.specs.Sequences.{all-of, any-of}
 use Rattle.rules.proofs.Sequences.{by-test, and-true, or-false}
 use Rattle.jobtext.specs.Figures.{line-feed, is-digit, value}
-use Rattle.jobtext.specs.Lines.{Parsed, parsed, refused, followed, Due, begins, leading-digits, figure, line, lines}
+use Rattle.jobtext.specs.Lines.{Parsed, parsed, refused, followed, Due, begins, leading-digits, figure, line, lines, is-number}
 use Rattle.jobtext.specs.JobText.{head-lines, task-lines, count-lines, message-lines, times, job-text}
-use Rattle.jobtext.specs.Answers.{is-number}
 use Rattle.jobtext.specs.Laws.{job-lines, Refusal, Refused-there}
 use Rattle.jobtext.proofs.Begun.{key-fits}
 use Rattle.jobtext.proofs.Scanned.{digit-below}

@@ -6,13 +6,12 @@ use Prim.Native.Nat.{ℕ, suc, _+_, _-_, _*_, _^_, _≤_, _<_}
 use native.Mathlib.Nat.{pow-suc, pow-le-pow-right}
 use native.Mathlib.Omega.{arith}
 use native.Mathlib.Numerals.{add-one}
-use lib.Dec.{ltb, leb}
 use lib.ListN.{length, getD, drop, drop-of-length-le}
 use lib.Seq.{drop-cons}
 use borrow.Author.Tests.{le-leb, lt-leb, lt-ltb, le-ltb}
 use Rattle.jobtext.specs.Figures.{is-digit, value-after, value}
 use Rattle.jobtext.specs.Lines.{leading-digits}
-use Rattle.jobtext.specs.Answers.{ScanIs}
+use Rattle.jobtext.specs.Parts.{ScanIs}
 
 pub digit-yes : (b : ℕ) → 48 ≤ b → b < 58 → is-digit b ≡ true
 unfolding is-digit

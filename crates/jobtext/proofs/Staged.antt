@@ -11,12 +11,12 @@ use Rattle.rules.specs.Words.{most-tasks, most-messages}
 use Rattle.rules.proofs.Sequences.{sum-append}
 use Rattle.jobtext.specs.declared.job.Outcome.{Outcome}
 use Rattle.jobtext.specs.declared.job.Outcome.the-variants.{Read, Stopped}
-use Rattle.jobtext.specs.declared.job.Head.{Head}
 use Rattle.jobtext.specs.declared.job.Head.the-variants.{Counted, Unread}
 use Rattle.jobtext.specs.declared.job.JobRead.{JobRead}
 use Rattle.jobtext.specs.Lines.{Parsed, parsed, refused, followed, Due, lines}
 use Rattle.jobtext.specs.JobText.{head-lines, task-lines, count-lines, message-lines, times, groups, task-said, message-said, blank-task, blank-message, filled, job-said, job-text, blank-job}
-use Rattle.jobtext.specs.Answers.{head-said, Reads, Group, AskMany}
+use Rattle.jobtext.specs.Parts.{head-said, Group, AskMany}
+use Rattle.jobtext.specs.Reader.{Reads}
 use Rattle.jobtext.proofs.Progress.{outcome-read, outcome-stopped, fewest, Whole, lines-whole}
 
 -- The head was read.

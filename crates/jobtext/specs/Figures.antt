@@ -1,4 +1,4 @@
--- Document 01, "Words and ranges": every figure is written in decimal. Texts are lists of bytes.
+-- A reader must believe this: texts as lists of bytes, and figures in decimal. Document 01, "Words and ranges"; a field is a line of its "Job text".
 use mathlib.Core.Bool.{Bool, true, false, _&&_}
 use mathlib.Core.List.{List, [], _∷_, _++_}
 use Prim.Native.Nat.{ℕ, zero, suc, _+_, _-_, _*_, _/_, _%_}
@@ -41,3 +41,12 @@ digits-within (suc most) n =
 -- a number in decimal: the digits of a tenth of it, then the last one. The number n has at most n + 1 digits.
 unfoldable pub decimal : ℕ → List ℕ
 decimal n = digits-within (suc n) n
+
+-- a key with its equals sign, a number and a line feed
+abbrev pub field : (key : List ℕ) → ℕ → List ℕ
+field key n = key ++ decimal n ++ (line-feed ∷ [])
+
+-- texts, one after the other
+abbrev pub joined : List (List ℕ) → List ℕ
+joined [] = []
+joined (text ∷ texts) = text ++ joined texts

@@ -1,4 +1,4 @@
--- Document 01, "Job text": the lines of a job in order, and the job that they say.
+-- A reader must believe this: the lines of a job in order, and the job that they say. Document 01, "Job text".
 use mathlib.Core.List.{List, [], _∷_, _++_}
 use Prim.Native.Nat.{ℕ, zero, suc, _-_}
 use lib.ListN.{length, getD, take, drop, replicate}
@@ -82,14 +82,20 @@ blank-message = record { sender = 0; receiver = 0; volume = 0 }
 abbrev pub filled : {A : Type 0} → (blank : A) → (most : ℕ) → List A → List A
 filled blank most xs = xs ++ replicate (most - length xs) blank
 
+abbrev pub tasks-said : (count : ℕ) → List ℕ → List Task
+tasks-said count figures = filled blank-task most-tasks (groups task-said (length task-lines) count figures)
+
+abbrev pub messages-said : (count : ℕ) → List ℕ → List Message
+messages-said count figures = filled blank-message most-messages (groups message-said (length message-lines) count figures)
+
 abbrev pub job-said : (head tasks count messages : List ℕ) → Job
 job-said head tasks count messages = record {
   number = getD head 0 0;
   scheduling = getD head 1 0;
   taskcount = getD head 2 0;
-  tasks = filled blank-task most-tasks (groups task-said (length task-lines) (getD head 2 0) tasks);
+  tasks = tasks-said (getD head 2 0) tasks;
   messagecount = getD count 0 0;
-  messages = filled blank-message most-messages (groups message-said (length message-lines) (getD count 0 0) messages);
+  messages = messages-said (getD count 0 0) messages;
 }
 
 -- The text of a job: what the part of the script says that starts at the job's first line.

@@ -1,4 +1,4 @@
--- Laws of the form: that the definitions of "Job text" say what is meant.
+-- A reader must believe this: what is claimed of figures and of the form, document 01, "Job text". proofs/ show that it holds.
 use mathlib.Core.Path.{_≡_}
 use mathlib.Core.Bool.{true, cond}
 use mathlib.Core.List.{List, [], _∷_, _++_, map}
@@ -10,8 +10,7 @@ use Rattle.rules.specs.declared.Message.{Message}
 use Rattle.rules.specs.declared.Job.{Job}
 use Rattle.rules.specs.Sequences.{all-of}
 use Rattle.rules.specs.Words.{most-tasks, most-messages, most-machines}
-use Rattle.jobtext.specs.Figures.{zero-digit, line-feed, is-digit, value, decimal}
-use Rattle.jobtext.specs.Put.{joined}
+use Rattle.jobtext.specs.Figures.{zero-digit, line-feed, is-digit, value, decimal, joined}
 use Rattle.jobtext.specs.Lines.{parsed, refused, Due, largest-figure, well-written, line, lines, written-lines}
 use Rattle.jobtext.specs.JobText.{head-lines, task-lines, count-lines, message-lines, times, blank-task, blank-message, filled, job-text}
 

@@ -1,7 +1,8 @@
--- What the job text's contracts cite beside the rules: figures, lines, the text of a job, and its laws.
+-- What the job text's contracts cite beside the rules: first what a reader must believe, then what the functions ask of each other.
 pub mod Figures
 pub mod Lines
 pub mod JobText
-pub mod Answers
-pub mod Put
+pub mod Reader
 pub mod Laws
+pub mod Parts
+pub mod Put

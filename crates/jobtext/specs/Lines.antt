@@ -1,12 +1,11 @@
--- Document 01, "Job text": one line, and lines in a row. Places count bytes from 0 at the start of the text.
+-- A reader must believe this: one line, and lines in a row. Document 01, "Job text". Places count bytes from 0 at the start of the text.
 use mathlib.Core.Bool.{Bool, true, false, not, _&&_, _||_, cond}
 use mathlib.Core.List.{List, [], _∷_, _++_}
 use Prim.Native.Nat.{ℕ, zero, _+_}
 use lib.Dec.{leb, eqb}
 use lib.ListN.{length, getD, drop}
 use Rattle.rules.specs.Refusals.{outside}
-use Rattle.jobtext.specs.Figures.{zero-digit, line-feed, is-digit, value}
-use Rattle.jobtext.specs.Put.{field}
+use Rattle.jobtext.specs.Figures.{zero-digit, line-feed, is-digit, value, field}
 
 -- What reading finds: a value and the place after it, or a refusal's number and place.
 pub data Parsed (A : Type 0) : Type 0 where
@@ -48,10 +47,14 @@ unfoldable pub well-written : List ℕ → Bool
 well-written digits =
     (leb 1 (length digits) && leb (length digits) 10) && (eqb (length digits) 1 || not (eqb (getD digits 0 0) zero-digit))
 
+-- a number as 15 asks it: such digits, and a line feed after them
+abbrev pub is-number : List ℕ → Bool
+is-number text = well-written (leading-digits text) && begins (line-feed ∷ []) (drop (length (leading-digits text)) text)
+
 -- What stands after the key: 15, the digits or the line feed after them are missing or ill-written; 16, the figure is outside its range.
 unfoldable pub figure : Due → (at : ℕ) → (rest : List ℕ) → Parsed ℕ
 figure due at rest =
-    cond (not (well-written (leading-digits rest) && begins (line-feed ∷ []) (drop (length (leading-digits rest)) rest))) (refused 15 at) (
+    cond (not (is-number rest)) (refused 15 at) (
     cond (outside (due .least) (due .most) (value (leading-digits rest))) (refused 16 at) (
     parsed (value (leading-digits rest)) (at + length (due .key) + length (leading-digits rest) + 1)
     ))

@@ -1,5 +1,7 @@
 // The lines of a job in order. Each line's answer is taken apart, and a refusal goes up with its place: nothing after a refused line is read.
 use crate::line::Line;
+use crate::line::line_number;
+use crate::line::line_place;
 use crate::line::read_line;
 use crate::line::read_ranged;
 use rules::Job;
@@ -14,12 +16,23 @@ ghost use lib.ListN.{length};
 ghost use Rattle.rules.specs.Words.{most-tasks, most-messages};
 ghost use Rattle.jobtext.specs.Lines.{lines};
 ghost use Rattle.jobtext.specs.JobText.{head-lines, blank-task, blank-message, blank-job};
-ghost use Rattle.jobtext.specs.Answers.{reached, unread, head-said, head-reached, Reads, RunsAre, TaskIs, MessageIs, TasksAre, MessagesAre, AskMany};
+ghost use Rattle.jobtext.specs.Reader.{line-number, line-place, outcome-number, Reads};
+ghost use Rattle.jobtext.specs.Parts.{stopped, head-said, head-reached, RunsAre, TaskIs, MessageIs, TasksAre, MessagesAre, AskMany};
 
 // How far reading came: the place after the last line, or the number of a refusal and the place of its line.
 pub enum Outcome {
     Read(usize),
     Stopped(u64, usize),
+}
+
+// The number of the refusal that stopped the reading, and 0 where nothing did.
+pub fn outcome_number(outcome: Outcome) -> u64
+    ensures { λ r. ⌜ r ≡ outcome-number outcome ⌝ }
+{
+    match outcome {
+        Outcome::Read(_) => 0,
+        Outcome::Stopped(number, _) => number,
+    }
 }
 
 // The job, or the blank job where a line was refused.
@@ -94,13 +107,11 @@ pub fn blank_job() -> Job
     }
 }
 
-fn outcome_of(line: Line) -> Outcome
-    ensures { λ r. ⌜ r ≡ reached line ⌝ }
+// A refused line goes up with its number and its place.
+fn stop_at(line: Line) -> Outcome
+    ensures { λ r. ⌜ r ≡ stopped line ⌝ }
 {
-    match line {
-        Line::Figure(_, next) => Outcome::Read(next),
-        Line::Refused(number, place) => Outcome::Stopped(number, place),
-    }
+    Outcome::Stopped(line_number(line), line_place(line))
 }
 
 // The run times, one for each machine.
@@ -115,7 +126,7 @@ fn read_runs(text: &[u8], at: usize) -> RunsRead
         let line = read_line(text, next, b"run=");
         let Line::Figure(run, after) = line else {
             return RunsRead {
-                outcome: outcome_of(line),
+                outcome: stop_at(line),
                 runs: runs,
             };
         };
@@ -131,10 +142,10 @@ fn read_runs(text: &[u8], at: usize) -> RunsRead
 
 // A task one of whose lines was refused.
 fn no_task(line: Line) -> TaskRead
-    ensures { λ r. ⌜ r .outcome ≡ reached line ⌝ }
+    ensures { λ r. ⌜ r .outcome ≡ stopped line ⌝ }
 {
     TaskRead {
-        outcome: outcome_of(line),
+        outcome: stop_at(line),
         task: blank_task(),
     }
 }
@@ -166,10 +177,10 @@ fn read_task(text: &[u8], at: usize) -> TaskRead
 
 // A message one of whose lines was refused.
 fn no_message(line: Line) -> MessageRead
-    ensures { λ r. ⌜ r .outcome ≡ reached line ⌝ }
+    ensures { λ r. ⌜ r .outcome ≡ stopped line ⌝ }
 {
     MessageRead {
-        outcome: outcome_of(line),
+        outcome: stop_at(line),
         message: blank_message(),
     }
 }
@@ -257,12 +268,9 @@ fn read_messages(text: &[u8], at: usize, count: usize) -> MessagesRead
 }
 
 fn no_head(line: Line) -> Head
-    ensures { λ r. ⌜ r ≡ unread line ⌝ }
+    ensures { λ r. ⌜ r ≡ Head.Unread (line-number line) (line-place line) ⌝ }
 {
-    match line {
-        Line::Figure(_, next) => Head::Unread(0, next),
-        Line::Refused(number, place) => Head::Unread(number, place),
-    }
+    Head::Unread(line_number(line), line_place(line))
 }
 
 fn read_head(text: &[u8]) -> Head
@@ -317,7 +325,7 @@ pub fn read_job(text: &[u8]) -> JobRead
     };
     let line = read_ranged(text, at2, b"messages=", 0, MESSAGES as u64);
     let Line::Figure(messagecount, at3) = line else {
-        return no_job(outcome_of(line));
+        return no_job(stop_at(line));
     };
     let second = read_messages(text, at3, messagecount as usize);
     let outcome2 = second.outcome;

@@ -2,8 +2,9 @@
 ghost use mathlib.Core.Path.{_≡_};
 ghost use Prim.Native.Nat.{_+_, _≤_, _<_};
 ghost use lib.ListN.{length};
-ghost use Rattle.jobtext.specs.Lines.{begins, any-figure, line};
-ghost use Rattle.jobtext.specs.Answers.{ScanIs, NumberIs, line-said};
+ghost use Rattle.jobtext.specs.Lines.{begins, any-figure};
+ghost use Rattle.jobtext.specs.Reader.{line-number, line-place, LineIs};
+ghost use Rattle.jobtext.specs.Parts.{ScanIs, NumberIs};
 
 // The most digits that a figure has, and the largest figure that they can say.
 const DIGITS: usize = 10;
@@ -14,6 +15,26 @@ const LARGEST: u64 = 9_999_999_999;
 pub enum Line {
     Figure(u64, usize),
     Refused(u64, usize),
+}
+
+// The number of a line's refusal, and 0 where it was read.
+pub fn line_number(line: Line) -> u64
+    ensures { λ r. ⌜ r ≡ line-number line ⌝ }
+{
+    match line {
+        Line::Figure(_, _) => 0,
+        Line::Refused(number, _) => number,
+    }
+}
+
+// The place after a line, or that of a refused one.
+pub fn line_place(line: Line) -> usize
+    ensures { λ r. ⌜ r ≡ line-place line ⌝ }
+{
+    match line {
+        Line::Figure(_, next) => next,
+        Line::Refused(_, place) => place,
+    }
 }
 
 // Digits: how many, and what they say.
@@ -111,7 +132,7 @@ fn number(text: &[u8]) -> Digits
 // The line at a place, with its key and the range of its figure.
 pub fn read_ranged(text: &[u8], at: usize, key: &[u8], least: u64, most: u64) -> Line
     requires { ⌜ at ≤ length (now text) ⌝ }
-    ensures { λ r. ⌜ r ≡ line-said (line (record { key = now (key .entry); least = least; most = most }) (now (text .entry)) at) ⌝ }
+    ensures { λ r. ⌜ LineIs (record { key = now (key .entry); least = least; most = most }) (now (text .entry)) at r ⌝ }
 {
     let rest = &text[at..];
     if !begins_with(rest, key) {
@@ -136,7 +157,7 @@ pub fn read_ranged(text: &[u8], at: usize, key: &[u8], least: u64, most: u64) ->
 // A line whose range is left to submission.
 pub fn read_line(text: &[u8], at: usize, key: &[u8]) -> Line
     requires { ⌜ at ≤ length (now text) ⌝ }
-    ensures { λ r. ⌜ r ≡ line-said (line (any-figure (now (key .entry))) (now (text .entry)) at) ⌝ }
+    ensures { λ r. ⌜ LineIs (any-figure (now (key .entry))) (now (text .entry)) at r ⌝ }
 {
     read_ranged(text, at, key, 0, LARGEST)
 }

@@ -4,51 +4,57 @@ use mathlib.Core.Bool.{true, false}
 use mathlib.Core.List.{List}
 use Prim.Native.Nat.{ℕ, _+_, _-_, _≤_, _<_}
 use native.Mathlib.Omega.{arith}
-use lib.Dec.{leb}
-use lib.ListN.{length, drop, length-drop}
+use lib.ListN.{length, take, drop, length-drop}
 use borrow.Author.Tests.{le-leb, lt-leb}
 use Rattle.rules.specs.declared.Job.{Job}
 use Rattle.rules.specs.Refusals.{Call, submits, withdraws, moves}
 use Rattle.reservation.specs.declared.calls.Kind.{Kind}
 use Rattle.reservation.specs.Kinds.{kind-of}
+use Rattle.jobtext.specs.declared.line.Line.{Line}
 use Rattle.jobtext.specs.declared.line.Line.the-variants.{Figure, Refused}
 use Rattle.jobtext.specs.declared.job.Outcome.the-variants.{Read, Stopped}
 use Rattle.jobtext.specs.declared.job.JobRead.{JobRead}
-use Rattle.jobtext.specs.Lines.{Parsed, parsed, refused, Due, any-figure, begins, line}
+use Rattle.jobtext.specs.Lines.{Parsed, parsed, refused, any-figure, begins, line}
 use Rattle.jobtext.specs.JobText.{job-key, job-text}
-use Rattle.jobtext.specs.Answers.{line-said, answered, Reads}
+use Rattle.jobtext.specs.Reader.{line-number, line-said, LineIs, outcome-number, answered, Reads}
 use Rattle.jobtext.proofs.Begun.{key-fits}
+use Rattle.jobtext.proofs.Lined.{part}
 use Rattle.jobtext.proofs.Progress.{line-within, line-read, line-refused}
 use Rattle.jobtext.proofs.Staged.{job-within}
-use Rattle.script.specs.declared.acts.Turn.{Turn}
 use Rattle.script.specs.declared.acts.Turn.the-variants.{Called}
 use Rattle.script.specs.declared.acts.NextAct.{NextAct}
-use Rattle.script.specs.Acts.{Act, ended, call, unread, as-act, act, submit-line, withdraw-line, clock-line, tick-key}
-use Rattle.script.specs.Answers.{turn-act, act-said}
+use Rattle.script.specs.Acts.{ended, call, unread, as-act, number-act, act, submit-line, withdraw-line, clock-line, tick-key}
+use Rattle.script.specs.Parts.{turn-act, act-said}
 
 -- What an answer of the code says.
 
-pub said-turn : (r : NextAct) (turn : Turn) → r .turn ≡ turn → act-said r ≡ turn-act turn (r .call)
-said-turn r turn e = ap (λ t. turn-act t (r .call)) e
-
 pub said-call : (r : NextAct) (next : ℕ) (kind : Kind) → r .turn ≡ Called next → r .call .kind ≡ kind → act-said r ≡ call (kind-of kind (r .call .job)) next
-said-call r next kind e k = said-turn r (Called next) e ∙ ap (λ x. call (kind-of x (r .call .job)) next) k
+said-call r next kind e k = ap (λ t. turn-act t (r .call)) e ∙ ap (λ x. call (kind-of x (r .call .job)) next) k
 
--- A number or a tick.
-module _ (make : ℕ → Call) (from : ℕ) (due : Due) (text : List ℕ) where
-  pub number-read : (n next : ℕ) → Figure n next ≡ line-said (line due text 0) → call (make n) (from + next) ≡ as-act make from (line due text 0)
-  number-read n next e = rw (line-read (line due text 0) n next e) refl
+-- A number or a tick, read of the part of the input from a place on.
+module _ (make : ℕ → Call) (key text : List ℕ) (from : ℕ) (r : Line) (reads : LineIs (any-figure key) (take (length text - from) (drop from text)) 0 r) where
+  said : r ≡ line-said (line (any-figure key) (drop from text) 0)
+  said = reads .answer-is ∙ ap (λ t. line-said (line (any-figure key) t 0)) (part text from)
 
-  pub number-unread : (number place : ℕ) → Refused number place ≡ line-said (line due text 0) → unread number ≡ as-act make from (line due text 0)
-  number-unread number place e = rw (line-refused (line due text 0) number place e) refl
+  number-parsed : (n next : ℕ) → r ≡ Figure n next → line (any-figure key) (drop from text) 0 ≡ parsed n next
+  number-parsed n next e = line-read (line (any-figure key) (drop from text) 0) n next (sym e ∙ said)
 
-  pub number-within : (n next : ℕ) → Figure n next ≡ line-said (line due text 0) → next ≤ length text
-  number-within n next e = line-within due text 0 n next (line-read (line due text 0) n next e) .1
+  pub number-read : (n next : ℕ) → r ≡ Figure n next → call (make n) (from + next) ≡ number-act make key text from
+  number-read n next e = rw (number-parsed n next e) refl
 
--- A job.
-module _ (text : List ℕ) (r : JobRead) (reads : Reads text r) where
-  job-parsed : (next : ℕ) → r .outcome ≡ Read next → job-text text ≡ parsed (r .job) next
-  job-parsed next e = go (job-text text) (reads .answer-is)
+  pub number-within : (n next : ℕ) → r ≡ Figure n next → next ≤ length (drop from text)
+  number-within n next e = line-within (any-figure key) (drop from text) 0 n next (number-parsed n next e) .1
+
+  pub number-unread : (number place : ℕ) → r ≡ Refused number place → unread (line-number r) ≡ number-act make key text from
+  number-unread number place e = rw (line-refused (line (any-figure key) (drop from text) 0) number place (sym e ∙ said), e) refl
+
+-- A job, read of the part of the input from its first line on.
+module _ (text : List ℕ) (from : ℕ) (r : JobRead) (reads : Reads (take (length text - from) (drop from text)) r) where
+  answer : r ≡ answered (job-text (drop from text))
+  answer = reads .answer-is ∙ ap (λ t. answered (job-text t)) (part text from)
+
+  job-parsed : (next : ℕ) → r .outcome ≡ Read next → job-text (drop from text) ≡ parsed (r .job) next
+  job-parsed next e = go (job-text (drop from text)) answer
     where
       go : (p : Parsed Job) → r ≡ answered p → p ≡ parsed (r .job) next
       go (parsed j last) q =
@@ -60,14 +66,14 @@ module _ (text : List ℕ) (r : JobRead) (reads : Reads text r) where
           let o : Read next ≡ Stopped number place = sym e ∙ ap (λ (x : JobRead). x .outcome) q in
           absurd (let z : _≡_ {A = ℕ} 0 1 = cc in omega arith)
 
-  pub job-read : (from next : ℕ) → r .outcome ≡ Read next → call (submits (r .job)) (from + next) ≡ as-act submits from (job-text text)
-  job-read from next e = rw (job-parsed next e) refl
+  pub job-read : (next : ℕ) → r .outcome ≡ Read next → call (submits (r .job)) (from + next) ≡ as-act submits from (job-text (drop from text))
+  job-read next e = rw (job-parsed next e) refl
 
-  pub job-read-within : (next : ℕ) → r .outcome ≡ Read next → next ≤ length text
-  job-read-within next e = job-within text (r .job) next (job-parsed next e) .1
+  pub job-read-within : (next : ℕ) → r .outcome ≡ Read next → next ≤ length (drop from text)
+  job-read-within next e = job-within (drop from text) (r .job) next (job-parsed next e) .1
 
-  pub job-unread : (from number place : ℕ) → r .outcome ≡ Stopped number place → unread number ≡ as-act submits from (job-text text)
-  job-unread from number place e = go (job-text text) (reads .answer-is)
+  pub job-unread : (number place : ℕ) → r .outcome ≡ Stopped number place → unread (outcome-number (r .outcome)) ≡ as-act submits from (job-text (drop from text))
+  job-unread number place e = rw e (go (job-text (drop from text)) answer)
     where
       go : (p : Parsed Job) → r ≡ answered p → unread number ≡ as-act submits from p
       go (parsed j last) q =
@@ -93,13 +99,13 @@ module _ (text : List ℕ) (at : ℕ) where
 
     pub at-withdraw :
         begins submit-line rest ≡ false → begins withdraw-line rest ≡ true →
-        act text at ≡ as-act withdraws (at + length withdraw-line) (line (any-figure job-key) (drop (at + length withdraw-line) text) 0)
+        act text at ≡ number-act withdraws job-key text (at + length withdraw-line)
     unfolding act
     at-withdraw a b = rw (lt-leb (length text) at more, a, b) refl
 
     pub at-clock :
         begins submit-line rest ≡ false → begins withdraw-line rest ≡ false → begins clock-line rest ≡ true →
-        act text at ≡ as-act moves (at + length clock-line) (line (any-figure tick-key) (drop (at + length clock-line) text) 0)
+        act text at ≡ number-act moves tick-key text (at + length clock-line)
     unfolding act
     at-clock a b c = rw (lt-leb (length text) at more, a, b, c) refl
 

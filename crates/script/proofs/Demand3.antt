@@ -2,14 +2,12 @@
 use mathlib.Core.Path.{_≡_, refl, ap, _∙_}
 use mathlib.Core.List.{List}
 use Prim.Native.Nat.{ℕ}
-use lib.ListN.{length}
-use borrow.Author.Tests.{le-ltb}
 use Rattle.rules.specs.declared.Row.{Row}
 use Rattle.rules.specs.Words.{State, default-setup}
-use Rattle.rules.specs.Refusals.{answers}
 use Rattle.rules.specs.Demands.{register-left, journal-left, Demand3}
 use Rattle.rules.proofs.Demand3.{demand-3}
-use Rattle.script.specs.Program.{script, printed, program, input-limit, journal-state, Demand3-of-script}
+use Rattle.script.specs.Program.{script, printed, program}
+use Rattle.script.specs.Demands.{journal-state, Demand3-of-script}
 
 -- equal fields, equal states
 same-state : (a b : State) → a .clock ≡ b .clock → a .rows ≡ b .rows → a .total ≡ b .total → a ≡ b
@@ -25,4 +23,4 @@ demand-3-of-script text =
     let calls = script text .calls in
     let d : Demand3 default-setup calls = demand-3 default-setup calls in
     let state : register-left default-setup calls ≡ journal-state (journal-left default-setup calls) = same-state (register-left default-setup calls) (journal-state (journal-left default-setup calls)) (d .clock-agrees) (d .rows-agree) (d .total-agrees) in
-    record { printed-is = λ few. rw (le-ltb input-limit (length text) few, d .answers-agree, state) refl; demand = d }
+    record { printed-is = rw (d .answers-agree, state) refl; demand = d }

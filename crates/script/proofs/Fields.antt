@@ -1,11 +1,12 @@
 -- Fields written one after the other, and the room that they take.
-use mathlib.Core.Path.{_≡_, refl, ap, _∙_}
+use mathlib.Core.Path.{_≡_, refl, _∙_}
 use mathlib.Core.List.{List, [], _++_}
 use Prim.Native.Nat.{ℕ, _+_, _≤_}
 use native.Mathlib.Omega.{arith}
 use lib.ListN.{length, length-append}
-use Rattle.jobtext.specs.Put.{Puts, PutsField, field}
-use Rattle.script.specs.Answers.{PutsAtMost}
+use Rattle.jobtext.specs.Figures.{field}
+use Rattle.jobtext.specs.Put.{Puts, PutsField}
+use Rattle.script.specs.Parts.{PutsAtMost}
 use Rattle.jobtext.proofs.Put.{puts-then, puts-long, put-none}
 
 -- bytes written from a place on, no more than so many

@@ -17,10 +17,11 @@ use Rattle.rules.specs.Bounds as Bounds
 use Rattle.rules.proofs.Sequences.{getD-mem}
 use Rattle.reservation.specs.declared.Register.{Register}
 use Rattle.reservation.specs.Registers.{state-of, Valid}
-use Rattle.jobtext.specs.Put.{Puts, joined, field}
+use Rattle.jobtext.specs.Figures.{joined}
+use Rattle.jobtext.specs.Put.{Puts}
 use Rattle.jobtext.proofs.Put.{puts-then}
-use Rattle.script.specs.Listing.{clock-key, total-key, held-key, row-bytes, sorted, heading, listing}
-use Rattle.script.specs.Answers.{Coded, task, message, AskOrder, OrderIs, order-number, PutsAtMost, most-row}
+use Rattle.script.specs.Listing.{row-bytes, sorted, heading, listing}
+use Rattle.script.specs.Parts.{Coded, task, message, AskOrder, OrderIs, order-number, PutsAtMost, most-row}
 use Rattle.script.proofs.Fields.{Within, within-none, within-then, within-room}
 use Rattle.script.proofs.Ordered.{key-place}
 
@@ -153,7 +154,7 @@ module _
 
     pub whole-listing :
         {old : List ℕ} {at : ℕ} {mid : List ℕ} {next : ℕ} {new : List ℕ} {last : ℕ} → at ≤ length old →
-        Puts old at (field clock-key clock ++ field total-key total ++ field held-key count) mid next → Puts mid next (joined (map row-bytes (sorted (take count rows)))) new last →
+        Puts old at (heading clock total count) mid next → Puts mid next (joined (map row-bytes (sorted (take count rows)))) new last →
         Puts old at (listing (state-of r)) new last
     unfolding listing
     whole-listing {old} {at} {mid} {next} {new} {last} h p q =
@@ -163,6 +164,6 @@ module _
         let few = valid .count-at-most in
         omega arith
         in
-        let head : field clock-key clock ++ field total-key total ++ field held-key count ≡ heading (state-of r) = rw (e-clock, e-total, held) refl in
+        let head : heading clock total count ≡ heading (state-of r .clock) (state-of r .total) (length (state-of r .rows)) = rw (e-clock, e-total, held) refl in
         let body : joined (map row-bytes (sorted (take count rows))) ≡ joined (map row-bytes (sorted (take (r .count) (r .rows)))) = rw (e-count, e-rows) refl in
         puts-then h (subst (λ b. Puts old at b mid next) head p) (subst (λ b. Puts mid next b new last) body q)

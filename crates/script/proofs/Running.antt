@@ -5,7 +5,6 @@ use mathlib.Core.Option.{Option, none, some}
 use Prim.Native.Nat.{ℕ, zero, suc, _+_, _-_, _*_, _≤_, _<_}
 use native.Mathlib.Nat.{zero-add}
 use native.Mathlib.Omega.{arith}
-use lib.Dec.{ltb}
 use lib.ListN.{length, take, drop, length-drop, length-append}
 use lib.Seq.{take-at, drop-at}
 use borrow.Author.Tests.{lt-ltb, le-ltb}
@@ -16,7 +15,6 @@ use Rattle.rules.specs.Refusals.{Call, submits, withdraws, moves, step, answers
 use Rattle.rules.proofs.Sequences.{by-test}
 use Rattle.reservation.specs.declared.Register.{Register}
 use Rattle.reservation.specs.declared.Reply.{Reply}
-use Rattle.reservation.specs.declared.calls.Call.{Call as CodeCall}
 use Rattle.reservation.specs.declared.calls.Kind.{Kind}
 use Rattle.reservation.specs.declared.calls.Kind.the-variants.{Submit, Withdraw, Clock}
 use Rattle.reservation.specs.Registers.{state-of, register-of, Valid}
@@ -25,19 +23,18 @@ use Rattle.reservation.specs.Kinds.{kind-of}
 use Rattle.reservation.proofs.Values.{state-same}
 use Rattle.jobtext.specs.Lines.{Parsed, parsed, refused, Due, any-figure, begins, line}
 use Rattle.jobtext.specs.JobText.{job-key, job-text, blank-job}
-use Rattle.jobtext.specs.Put.{Puts, field}
+use Rattle.jobtext.specs.Put.{Puts}
 use Rattle.jobtext.proofs.Progress.{line-within}
 use Rattle.jobtext.proofs.Staged.{job-within}
 use Rattle.jobtext.proofs.Numbers.{by-less}
 use Rattle.jobtext.proofs.Put.{puts-then}
-use Rattle.script.specs.declared.acts.Turn.{Turn}
-use Rattle.script.specs.declared.acts.Turn.the-variants.{Ended, Called, Unread}
 use Rattle.script.specs.Acts.{Act, ended, call, unread, as-act, act, submit-line, withdraw-line, clock-line, tick-key}
-use Rattle.script.specs.Replies.{refused-key, reply, stop-line}
+use Rattle.script.specs.Replies.{reply, stop-line}
 use Rattle.script.specs.Listing.{listing}
 use Rattle.script.specs.Program.{Script, script-from, script, replies, printed, program, input-limit}
 use Rattle.script.specs.Laws.{Turns-enough}
-use Rattle.script.specs.Answers.{turn-act, stop-of, PutsAtMost, most-for, most-reply, most-answer, output-size, Runs}
+use Rattle.script.specs.Contract.{output-size, Runs}
+use Rattle.script.specs.Parts.{PutsAtMost, most-for, most-reply, most-answer}
 use Rattle.script.proofs.Fields.{Within, within-none, within-then, within-next}
 use Rattle.script.proofs.Acted.{at-end, at-submit, at-withdraw, at-clock, no-act, act-fits}
 
@@ -209,19 +206,25 @@ module _ (s : Setup) (st : State) where
 pub record Running (text old : List ℕ) (r : Register) (at : ℕ) (new : List ℕ) (end : ℕ) : Type 0 where
   pub bytes : List ℕ
   pub within : Within old 0 bytes new end (2 * at)
-  pub to-come : printed default-setup fresh (script text) ≡ bytes ++ printed default-setup (state-of r) (script-from (length text - at) text at)
+  pub to-come : program default-setup text ≡ bytes ++ printed default-setup (state-of r) (script-from (length text - at) text at)
   pub valid : Valid r
   pub setup-is : r .setup ≡ default-setup
   pub inside : at ≤ length text
 
+-- an input within the limit is read from its start on
+within-limit : (text : List ℕ) → length text ≤ input-limit → script text ≡ script-from (length text) text 0
+unfolding script
+within-limit text few = rw (le-ltb input-limit (length text) few) refl
+
 module _ (text old : List ℕ) (few : length text ≤ input-limit) (room : length old ≡ output-size) where
   pub running-none : (r : Register) → r ≡ register-of default-setup fresh → Valid r → Running text old r 0 old 0
+  unfolding program
   running-none r e valid =
       let off : length text - 0 ≡ length text = omega arith in
       record {
         bytes = [];
         within = within-none (omega arith);
-        to-come = rw (off, e, state-same default-setup fresh) refl;
+        to-come = rw (within-limit text few, off, e, state-same default-setup fresh) refl;
         valid = valid;
         setup-is = rw e refl;
         inside = omega arith;
@@ -272,31 +275,26 @@ module _ (text old : List ℕ) (few : length text ≤ input-limit) (room : lengt
     running-room = let n = within-next (w .within) in let l = w .within .long in omega arith
 
     pub running-stops :
-        (turn : Turn) (c : CodeCall) (new′ : List ℕ) (last : ℕ) → turn-act turn c ≡ act text at → ((next : ℕ) → turn ≡ Called next → ⊥) →
-        Puts new end (stop-line (stop-of turn) ++ listing (state-of r)) new′ last → Puts old 0 (printed default-setup fresh (script text)) new′ last
-    running-stops turn c new′ last e not p =
-        let stop : script-from (length text - at) text at ≡ record { calls = []; stop = stop-of turn } =
-        ap (λ n. script-from n text at) left-over ∙ stopped turn (length text - suc at) e not
+        (number : ℕ) (new′ : List ℕ) (last : ℕ) → act text at ≡ unread number → Puts new end (stop-line (some number) ++ listing (state-of r)) new′ last →
+        Puts old 0 (program default-setup text) new′ last
+    running-stops number new′ last e p =
+        let stop : script-from (length text - at) text at ≡ record { calls = []; stop = some number } =
+        ap (λ n. script-from n text at) left-over ∙ script-unread text at (length text - suc at) number e
         in
-        let all : printed default-setup fresh (script text) ≡ w .bytes ++ (stop-line (stop-of turn) ++ listing (state-of r)) =
-        w .to-come ∙ ap (λ x. w .bytes ++ printed default-setup (state-of r) x) stop ∙ ap (λ x. w .bytes ++ x) (printed-stop default-setup (state-of r) (stop-of turn))
+        let all : program default-setup text ≡ w .bytes ++ (stop-line (some number) ++ listing (state-of r)) =
+        w .to-come ∙ ap (λ x. w .bytes ++ printed default-setup (state-of r) x) stop ∙ ap (λ x. w .bytes ++ x) (printed-stop default-setup (state-of r) (some number))
         in
         subst (λ b. Puts old 0 b new′ last) (sym all) (puts-then (omega arith) (w .within .puts) p)
-      where
-        stopped : (t : Turn) (turns : ℕ) → turn-act t c ≡ act text at → ((next : ℕ) → t ≡ Called next → ⊥) → script-from (suc turns) text at ≡ record { calls = []; stop = stop-of t }
-        stopped Ended turns q n = script-ended text at turns (sym q)
-        stopped (Called next) turns q n = absurd (n next refl)
-        stopped (Unread number) turns q n = script-unread text at turns number (sym q)
 
   module _ (r : Register) (at : ℕ) (new : List ℕ) (end : ℕ) (w : Running text old r at new end) where
     -- there is room for a reading refusal and the listing
     pub ending-room : end + (29 + 46_672) ≤ length new
     ending-room = let n = within-next (w .within) in let l = w .within .long in let i = w .inside in omega arith
 
-    pub running-ends : (new′ : List ℕ) (last : ℕ) → length text ≤ at → Puts new end (listing (state-of r)) new′ last → Puts old 0 (printed default-setup fresh (script text)) new′ last
+    pub running-ends : (new′ : List ℕ) (last : ℕ) → length text ≤ at → Puts new end (listing (state-of r)) new′ last → Puts old 0 (program default-setup text) new′ last
     running-ends new′ last over p =
         let stop : script-from (length text - at) text at ≡ record { calls = []; stop = none } = ended-there text at (length text - at) over in
-        let all : printed default-setup fresh (script text) ≡ w .bytes ++ listing (state-of r) =
+        let all : program default-setup text ≡ w .bytes ++ listing (state-of r) =
         w .to-come ∙ ap (λ x. w .bytes ++ printed default-setup (state-of r) x) stop ∙ ap (λ x. w .bytes ++ x) (printed-stop default-setup (state-of r) none ∙ no-stop (listing (state-of r)))
         in
         subst (λ b. Puts old 0 b new′ last) (sym all) (puts-then (omega arith) (w .within .puts) p)
@@ -329,14 +327,12 @@ whole-run input old new count long kept p =
 
 -- 19, and nothing is acted on
 pub too-long :
-    (input old mid new : List ℕ) (r : Register) (next last : ℕ) → input-limit < length input → r ≡ register-of default-setup fresh → Puts old 0 (field refused-key 19) mid next →
-    Puts mid next (listing (state-of r)) new last → Puts old 0 (program default-setup input) new last
-unfolding program
-too-long input old mid new r next last over e p q =
+    (input old new : List ℕ) (r : Register) (last : ℕ) → input-limit < length input → r ≡ register-of default-setup fresh →
+    Puts old 0 (stop-line (some 19) ++ listing (state-of r)) new last → Puts old 0 (program default-setup input) new last
+unfolding program script
+too-long input old new r last over e p =
     let state : state-of r ≡ fresh = ap state-of e ∙ state-same default-setup fresh in
-    let all : program default-setup input ≡ field refused-key 19 ++ listing (state-of r) = rw (lt-ltb input-limit (length input) over, state) refl in
-    subst (λ b. Puts old 0 b new last) (sym all) (puts-then (omega arith) p q)
-
-pub not-long : (input old new : List ℕ) (last : ℕ) → length input ≤ input-limit → Puts old 0 (printed default-setup fresh (script input)) new last → Puts old 0 (program default-setup input) new last
-unfolding program
-not-long input old new last few p = subst (λ b. Puts old 0 b new last) (sym (rw (le-ltb input-limit (length input) few) refl)) p
+    let all : program default-setup input ≡ stop-line (some 19) ++ listing (state-of r) =
+    rw (lt-ltb input-limit (length input) over, state) (printed-stop default-setup fresh (some 19))
+    in
+    subst (λ b. Puts old 0 b new last) (sym all) p

@@ -1,4 +1,4 @@
--- Document 01, "The program `register`": what it reads. An act is an act line and what follows it.
+-- A reader must believe this: what the program reads. An act is an act line and what follows it. Document 01, "The program `register`".
 use mathlib.Core.Bool.{cond}
 use mathlib.Core.List.{List}
 use Prim.Native.Nat.{ℕ, _+_}
@@ -33,12 +33,16 @@ abbrev pub as-act : {A : Type 0} → (A → Call) → (from : ℕ) → Parsed A 
 as-act make from (parsed a next) = call (make a) (from + next)
 as-act make from (refused number place) = unread number
 
+-- a call that carries a number: the line with that key, from a place on
+abbrev pub number-act : (ℕ → Call) → (key text : List ℕ) → (from : ℕ) → Act
+number-act make key text from = as-act make from (line (any-figure key) (drop from text) 0)
+
 -- The act at a place. 17: no act line where one is due; an ended input there is the ordinary end. A submission's job text starts after its act line.
 unfoldable pub act : (text : List ℕ) (at : ℕ) → Act
 act text at =
     cond (leb (length text) at) ended (
     cond (begins submit-line (drop at text)) (as-act submits (at + length submit-line) (job-text (drop (at + length submit-line) text))) (
-    cond (begins withdraw-line (drop at text)) (as-act withdraws (at + length withdraw-line) (line (any-figure job-key) (drop (at + length withdraw-line) text) 0)) (
-    cond (begins clock-line (drop at text)) (as-act moves (at + length clock-line) (line (any-figure tick-key) (drop (at + length clock-line) text) 0)) (
+    cond (begins withdraw-line (drop at text)) (number-act withdraws job-key text (at + length withdraw-line)) (
+    cond (begins clock-line (drop at text)) (number-act moves tick-key text (at + length clock-line)) (
     unread 17
     ))))

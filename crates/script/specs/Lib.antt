@@ -1,7 +1,9 @@
--- The program `register` as definitions: the next act of a script, the bytes of an answer, the listing, and the whole output; and what the code's contracts cite beside them.
+-- The program `register` as definitions: first what a reader must believe, then what the functions ask of each other.
 pub mod Acts
 pub mod Replies
 pub mod Listing
 pub mod Program
+pub mod Demands
 pub mod Laws
-pub mod Answers
+pub mod Contract
+pub mod Parts

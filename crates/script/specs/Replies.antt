@@ -1,11 +1,10 @@
--- Document 01, "The program `register`": the bytes of an answer, one field a line.
+-- A reader must believe this: the bytes of an answer, one field a line. Document 01, "The program `register`".
 use mathlib.Core.List.{List, [], _++_}
 use mathlib.Core.Option.{Option, none, some}
 use Prim.Native.Nat.{ℕ}
 use Rattle.rules.specs.declared.Answer.{Answer}
 use Rattle.rules.specs.Refusals.{Call, submits, withdraws, moves}
-use Rattle.jobtext.specs.Figures.{bytes}
-use Rattle.jobtext.specs.Put.{field}
+use Rattle.jobtext.specs.Figures.{bytes, field}
 
 abbrev pub answer-key : List ℕ
 answer-key = bytes "answer="
@@ -22,9 +21,12 @@ rows-key = bytes "rows="
 abbrev pub refused-key : List ℕ
 refused-key = bytes "refused="
 
+abbrev pub submission-reply : Answer → List ℕ
+submission-reply a = field answer-key (a .number) ++ field task-key (a .task) ++ field cost-key (a .cost) ++ field rows-key (a .rows)
+
 -- withdrawals and clock moves print `answer` only
 unfoldable pub reply : Call → Answer → List ℕ
-reply (submits j) a = field answer-key (a .number) ++ field task-key (a .task) ++ field cost-key (a .cost) ++ field rows-key (a .rows)
+reply (submits j) a = submission-reply a
 reply (withdraws n) a = field answer-key (a .number)
 reply (moves tick) a = field answer-key (a .number)
 

@@ -1,24 +1,24 @@
 // What stands at a place of a script: an act line, and the job text, the number or the tick that it calls for.
 use jobtext::job::Outcome;
 use jobtext::job::blank_job;
+use jobtext::job::outcome_number;
 use jobtext::job::read_job;
 use jobtext::line::Line;
 use jobtext::line::begins_with;
+use jobtext::line::line_number;
 use jobtext::line::read_line;
 use reservation::calls::Call;
 use reservation::calls::Kind;
 ghost use mathlib.Core.Path.{_≡_};
-ghost use Prim.Native.Nat.{_≤_};
+ghost use Prim.Native.Nat.{_≤_, _<_};
 ghost use lib.ListN.{length, drop};
 ghost use Rattle.rules.specs.Refusals.{submits, withdraws, moves};
-ghost use Rattle.jobtext.specs.Lines.{any-figure, line};
 ghost use Rattle.jobtext.specs.JobText.{job-key, job-text};
-ghost use Rattle.script.specs.Acts.{as-act, tick-key, act};
-ghost use Rattle.script.specs.Answers.{act-said};
+ghost use Rattle.script.specs.Acts.{unread, as-act, number-act, tick-key, act};
+ghost use Rattle.script.specs.Parts.{act-said};
 
-// The ordinary end, a call and the place after it, or the number of a reading refusal.
+// A call and the place after it, or the number of a reading refusal.
 pub enum Turn {
-    Ended,
     Called(usize),
     Unread(u64),
 }
@@ -30,11 +30,11 @@ pub struct NextAct {
 }
 
 // No call.
-fn without_call(turn: Turn) -> NextAct
-    ensures { λ r. ⌜ r .turn ≡ turn ⌝ }
+fn without_call(number: u64) -> NextAct
+    ensures { λ r. ⌜ act-said r ≡ unread number ⌝ }
 {
     NextAct {
-        turn: turn,
+        turn: Turn::Unread(number),
         call: Call {
             kind: Kind::Submit,
             job: blank_job(),
@@ -62,51 +62,46 @@ fn submission(input: &[u8], from: usize) -> NextAct
 {
     let read = read_job(&input[from..]);
     let outcome = read.outcome;
-    match outcome {
-        Outcome::Read(next) => {
-            let job = read.job;
-            NextAct {
-                turn: Turn::Called(from + next),
-                call: Call {
-                    kind: Kind::Submit,
-                    job: job,
-                },
-            }
-        }
-        Outcome::Stopped(number, _) => without_call(Turn::Unread(number)),
+    let Outcome::Read(next) = outcome else {
+        return without_call(outcome_number(outcome));
+    };
+    let job = read.job;
+    NextAct {
+        turn: Turn::Called(from + next),
+        call: Call {
+            kind: Kind::Submit,
+            job: job,
+        },
     }
 }
 
 fn withdrawal(input: &[u8], from: usize) -> NextAct
     requires { ⌜ from ≤ length (now input) ⌝ }
-    ensures { λ r. ⌜ act-said r ≡ as-act withdraws from (line (any-figure job-key) (drop from (now (input .entry))) 0) ⌝ }
+    ensures { λ r. ⌜ act-said r ≡ number-act withdraws job-key (now (input .entry)) from ⌝ }
 {
     let line = read_line(&input[from..], 0, b"job=");
-    match line {
-        Line::Figure(number, next) => with_number(Kind::Withdraw(number), from + next),
-        Line::Refused(number, _) => without_call(Turn::Unread(number)),
-    }
+    let Line::Figure(number, next) = line else {
+        return without_call(line_number(line));
+    };
+    with_number(Kind::Withdraw(number), from + next)
 }
 
 fn clock_move(input: &[u8], from: usize) -> NextAct
     requires { ⌜ from ≤ length (now input) ⌝ }
-    ensures { λ r. ⌜ act-said r ≡ as-act moves from (line (any-figure tick-key) (drop from (now (input .entry))) 0) ⌝ }
+    ensures { λ r. ⌜ act-said r ≡ number-act moves tick-key (now (input .entry)) from ⌝ }
 {
     let line = read_line(&input[from..], 0, b"tick=");
-    match line {
-        Line::Figure(tick, next) => with_number(Kind::Clock(tick), from + next),
-        Line::Refused(number, _) => without_call(Turn::Unread(number)),
-    }
+    let Line::Figure(tick, next) = line else {
+        return without_call(line_number(line));
+    };
+    with_number(Kind::Clock(tick), from + next)
 }
 
-// The act at a place.
+// The act at a place before the input's end.
 pub fn next_act(input: &[u8], at: usize) -> NextAct
-    requires { ⌜ at ≤ length (now input) ⌝ }
+    requires { ⌜ at < length (now input) ⌝ }
     ensures { λ r. ⌜ act-said r ≡ act (now (input .entry)) at ⌝ }
 {
-    if input.len() == at {
-        return without_call(Turn::Ended);
-    }
     let rest = &input[at..];
     if begins_with(rest, b"act=submit\n") {
         return submission(input, at + 11);
@@ -117,5 +112,5 @@ pub fn next_act(input: &[u8], at: usize) -> NextAct
     if begins_with(rest, b"act=clock\n") {
         return clock_move(input, at + 10);
     }
-    without_call(Turn::Unread(17))
+    without_call(17)
 }

@@ -11,38 +11,34 @@ use listing::put_listing;
 use replies::put_reply;
 use reservation::Register;
 ghost use mathlib.Core.List.{_++_};
-ghost use Rattle.rules.specs.Words.{fresh, default-setup};
+ghost use mathlib.Core.Option.{some};
+ghost use Rattle.rules.specs.Words.{default-setup};
 ghost use Rattle.reservation.specs.Registers.{state-of};
 ghost use Rattle.jobtext.specs.Put.{Puts};
 ghost use Rattle.script.specs.Replies.{stop-line};
 ghost use Rattle.script.specs.Listing.{listing};
-ghost use Rattle.script.specs.Program.{script, printed};
-ghost use Rattle.script.specs.Answers.{stop-of, AskFinish, AskCalls, Runs};
+ghost use Rattle.script.specs.Program.{program};
+ghost use Rattle.script.specs.Contract.{Runs};
+ghost use Rattle.script.specs.Parts.{AskRefusal, AskCalls};
 
 // The largest input, and an output buffer that is large enough for every input.
 pub const INPUT: usize = 65_536;
 
 pub const OUTPUT: usize = 184_320;
 
-// The end of a script: its reading refusal, if there was one, and the listing.
-fn finish(output: &mut [u8], at: usize, turn: Turn, register: Register) -> usize
-    requires { ⌜ AskFinish register (now output) at ⌝ }
-    ensures { λ r. ⌜ Puts (now (output .entry)) at (stop-line (stop-of turn) ++ listing (state-of register)) (now (output .exit)) r ⌝ }
+// The end of a script that a reading refusal ended: its number, and the listing.
+fn put_refusal(output: &mut [u8], at: usize, number: u64, register: Register) -> usize
+    requires { ⌜ AskRefusal register (now output) at ⌝ }
+    ensures { λ r. ⌜ Puts (now (output .entry)) at (stop-line (some number) ++ listing (state-of register)) (now (output .exit)) r ⌝ }
 {
-    match turn {
-        Turn::Unread(number) => {
-            let start = put_field(output, at, b"refused=", number);
-            put_listing(output, start, register)
-        }
-        Turn::Ended => put_listing(output, at, register),
-        Turn::Called(_) => put_listing(output, at, register),
-    }
+    let start = put_field(output, at, b"refused=", number);
+    put_listing(output, start, register)
 }
 
 // The calls of a script in their order, each answered before the next is read.
 fn run_calls(input: &[u8], output: &mut [u8]) -> usize
     requires { ⌜ AskCalls (now input) (now output) ⌝ }
-    ensures { λ r. ⌜ Puts (now (output .entry)) 0 (printed default-setup fresh (script (now (input .entry)))) (now (output .exit)) r ⌝ }
+    ensures { λ r. ⌜ Puts (now (output .entry)) 0 (program default-setup (now (input .entry))) (now (output .exit)) r ⌝ }
 {
     let mut register = Register::new();
     let mut at = 0;
@@ -50,17 +46,21 @@ fn run_calls(input: &[u8], output: &mut [u8]) -> usize
     while at < input.len() {
         let act = next_act(input, at);
         let turn = act.turn;
-        let Turn::Called(next) = turn else {
-            return finish(output, end, turn, register);
-        };
-        let call = act.call;
-        let kind = call.kind;
-        let reply = register.apply(call);
-        let left = reply.register;
-        register = left;
-        let answer = reply.answer;
-        end = put_reply(output, end, kind, answer);
-        at = next;
+        match turn {
+            Turn::Called(next) => {
+                let call = act.call;
+                let kind = call.kind;
+                let reply = register.apply(call);
+                let left = reply.register;
+                register = left;
+                let answer = reply.answer;
+                end = put_reply(output, end, kind, answer);
+                at = next;
+            }
+            Turn::Unread(number) => {
+                return put_refusal(output, end, number, register);
+            }
+        }
     }
     put_listing(output, end, register)
 }
@@ -70,8 +70,7 @@ pub fn run(input: &[u8], output: &mut [u8; OUTPUT]) -> usize
     ensures { λ r. ⌜ Runs (now (input .entry)) (now (output .entry)) (now (output .exit)) r ⌝ }
 {
     if INPUT < input.len() {
-        let start = put_field(output, 0, b"refused=", 19);
-        return put_listing(output, start, Register::new());
+        return put_refusal(output, 0, 19, Register::new());
     }
     run_calls(input, output)
 }

@@ -5,20 +5,18 @@ use reservation::Register;
 use rules::Holder;
 use rules::ROWS;
 use rules::Row;
-ghost use mathlib.Core.List.{_++_};
 ghost use mathlib.Core.List.{map};
 ghost use Prim.Native.Nat.{_+_, _≤_};
 ghost use lib.ListN.{length, take};
 ghost use Rattle.reservation.specs.Registers.{state-of};
-ghost use Rattle.jobtext.specs.JobText.{job-key, from-key, to-key};
-ghost use Rattle.jobtext.specs.Put.{Puts, joined, field};
-ghost use Rattle.script.specs.Replies.{task-key};
-ghost use Rattle.script.specs.Listing.{clock-key, total-key, held-key, machine-key, link-key, start-key, finish-key, row-bytes, sorted, listing};
-ghost use Rattle.script.specs.Answers.{PutsAtMost, most-heading, most-row, AskRows, AskListing};
+ghost use Rattle.jobtext.specs.Figures.{joined};
+ghost use Rattle.jobtext.specs.Put.{Puts};
+ghost use Rattle.script.specs.Listing.{task-row, message-row, row-bytes, sorted, heading, listing};
+ghost use Rattle.script.specs.Parts.{PutsAtMost, most-heading, most-row, AskRows, AskListing};
 
 fn put_heading(output: &mut [u8], at: usize, clock: u64, total: u64, held: u64) -> usize
     requires { ⌜ at + most-heading ≤ length (now output) ⌝ }
-    ensures { λ r. ⌜ PutsAtMost (now (output .entry)) at (field clock-key clock ++ field total-key total ++ field held-key held) (now (output .exit)) r most-heading ⌝ }
+    ensures { λ r. ⌜ PutsAtMost (now (output .entry)) at (heading clock total held) (now (output .exit)) r most-heading ⌝ }
 {
     let at1 = put_field(output, at, b"clock=", clock);
     let at2 = put_field(output, at1, b"total=", total);
@@ -27,7 +25,7 @@ fn put_heading(output: &mut [u8], at: usize, clock: u64, total: u64, held: u64) 
 
 fn put_task_row(output: &mut [u8], at: usize, machine: u64, task: u64, row: Row) -> usize
     requires { ⌜ at + most-row ≤ length (now output) ⌝ }
-    ensures { λ r. ⌜ PutsAtMost (now (output .entry)) at (field machine-key machine ++ field job-key (row .job) ++ field task-key task ++ field start-key (row .start) ++ field finish-key (row .finish)) (now (output .exit)) r most-row ⌝ }
+    ensures { λ r. ⌜ PutsAtMost (now (output .entry)) at (task-row machine task row) (now (output .exit)) r most-row ⌝ }
 {
     let at1 = put_field(output, at, b"machine=", machine);
     let at2 = put_field(output, at1, b"job=", row.job);
@@ -46,7 +44,7 @@ fn put_message_row(
     row: Row,
 ) -> usize
     requires { ⌜ at + most-row ≤ length (now output) ⌝ }
-    ensures { λ r. ⌜ PutsAtMost (now (output .entry)) at (field link-key source ++ field to-key target ++ field job-key (row .job) ++ field from-key sender ++ field task-key receiver ++ field start-key (row .start) ++ field finish-key (row .finish)) (now (output .exit)) r most-row ⌝ }
+    ensures { λ r. ⌜ PutsAtMost (now (output .entry)) at (message-row source target sender receiver row) (now (output .exit)) r most-row ⌝ }
 {
     let at1 = put_field(output, at, b"link=", source);
     let at2 = put_field(output, at1, b"to=", target);

@@ -4,14 +4,12 @@ use reservation::calls::Kind;
 use rules::Answer;
 ghost use Prim.Native.Nat.{_+_, _≤_};
 ghost use lib.ListN.{length};
-ghost use mathlib.Core.List.{_++_};
-ghost use Rattle.jobtext.specs.Put.{field};
-ghost use Rattle.script.specs.Replies.{answer-key, task-key, cost-key, rows-key};
-ghost use Rattle.script.specs.Answers.{PutsAtMost, ReplyPuts, most-reply};
+ghost use Rattle.script.specs.Replies.{submission-reply};
+ghost use Rattle.script.specs.Parts.{PutsAtMost, ReplyPuts, most-reply};
 
 fn put_submitted(output: &mut [u8], at: usize, answer: Answer) -> usize
     requires { ⌜ at + most-reply ≤ length (now output) ⌝ }
-    ensures { λ r. ⌜ PutsAtMost (now (output .entry)) at (field answer-key (answer .number) ++ field task-key (answer .task) ++ field cost-key (answer .cost) ++ field rows-key (answer .rows)) (now (output .exit)) r most-reply ⌝ }
+    ensures { λ r. ⌜ PutsAtMost (now (output .entry)) at (submission-reply answer) (now (output .exit)) r most-reply ⌝ }
 {
     let at1 = put_field(output, at, b"answer=", answer.number);
     let at2 = put_field(output, at1, b"task=", answer.task);

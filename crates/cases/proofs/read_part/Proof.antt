@@ -35,7 +35,7 @@ returns-4 : tie.Need-returns-4
 returns-4 c =
     let start = c .before .before .before .before .before .before .before .before in
     let given = c .before .before .before .line .given in
-    let read = line-read (line (any-figure (start .args .key .now)) (start .args .text .now) (start .args .at)) (given .0 .0) (given .0 .1 .0) (sym (given .1) ∙ c .before .before .before .before .before .read-line .ensures) in
+    let read = line-read (line (any-figure (start .args .key .now)) (start .args .text .now) (start .args .at)) (given .0 .0) (given .0 .1 .0) (sym (given .1) ∙ c .before .before .before .before .before .read-line .ensures .answer-is) in
     let within = line-within (any-figure (start .args .key .now)) (start .args .text .now) (start .args .at) (given .0 .0) (given .0 .1 .0) read in
     (omega (arith, within .0), omega arith, omega (arith, within .1))
 

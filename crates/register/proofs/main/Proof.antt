@@ -1,13 +1,33 @@
--- `register::main` meets its contract: the parts of the buffers that are lent lie within them.
+-- `register::main` meets its contract: what was read lies within the buffer.
 use native.Mathlib.Omega.{arith}
-use mathlib.Core.Path.{_≡_, sym, ap, _∙_}
+use mathlib.Core.Path.{_≡_, sym}
+use Prim.Native.Nat.{_+_, _≤_}
 use borrow.Author.Needs.{needs}
-use lib.ListN.{length, length-take}
+use lib.ListN.{length}
 use lib.Seq.{length-take-le}
-use Rattle.register.specs.declared.Input.the-variants.{Bytes}
+use Rattle.script.specs.Program.{input-limit}
+use Rattle.register.specs.declared.Input.the-variants.{Whole, Above}
 use Rattle.register.specs.Reading.{ReadAll}
 use Rattle.register.proofs.main.Statement.{statement}
 use Rattle.register.proofs.main.Tie as tie
+
+-- the buffer has kept its length
+long : (c : tie.After-read-all) → length (c .read-all .last .0) ≡ input-limit + 1
+long c = c .read-all .kept .0
+
+whole : (c : tie.After-input) → c .input .given .0 .0 ≤ length (c .before .before .before .read-all .last .0)
+whole c =
+    let all = c .before .before .before in
+    let told = c .input .given in
+    let went : ReadAll (Whole (told .0 .0)) = rw (told .1) at (all .read-all .ensures) in
+    omega (arith, long all)
+
+above : (c : tie.After-input2) → c .input2 .given .0 .0 ≤ length (c .before .before .before .read-all .last .0)
+above c =
+    let all = c .before .before .before in
+    let told = c .input2 .given in
+    let went : ReadAll (Above (told .0 .0)) = rw (told .1) at (all .read-all .ensures) in
+    omega (arith, long all)
 
 slice-aggregate-read-all : tie.Need-slice-aggregate-read-all
 slice-aggregate-read-all c = search needs
@@ -15,47 +35,51 @@ slice-aggregate-read-all c = search needs
 read-all-requires : tie.Need-read-all-requires
 read-all-requires c κs = search needs
 
-enum-known-read : tie.Need-enum-known-read
-enum-known-read c = search needs
+enum-known-input : tie.Need-enum-known-input
+enum-known-input c = search needs
+
+array-share-prefix-buffer : tie.Need-array-share-prefix-buffer
+array-share-prefix-buffer c = whole (c .before)
+
+slice-aggregate-answer : tie.Need-slice-aggregate-answer
+slice-aggregate-answer c =
+    let read = c .before .before in
+    sym (length-take-le (read .input .given .0 .0) (read .before .before .before .read-all .last .0) (whole read))
+
+answer-requires : tie.Need-answer-requires
+answer-requires c κs = search needs
+
+enum-known-input-2 : tie.Need-enum-known-input-2
+enum-known-input-2 c = search needs
+
+array-share-prefix-buffer-2 : tie.Need-array-share-prefix-buffer-2
+array-share-prefix-buffer-2 c = above (c .before)
+
+slice-aggregate-answer-2 : tie.Need-slice-aggregate-answer-2
+slice-aggregate-answer-2 c =
+    let read = c .before .before in
+    sym (length-take-le (read .input2 .given .0 .0) (read .before .before .before .read-all .last .0) (above read))
+
+answer-requires-2 : tie.Need-answer-requires-2
+answer-requires-2 c κs = search needs
 
 enum-told : tie.Need-enum-told
 enum-told c = search needs
 
+slice-aggregate-complain : tie.Need-slice-aggregate-complain
+slice-aggregate-complain c = search needs
+
+complain-requires : tie.Need-complain-requires
+complain-requires c κs = search needs
+
 returns : tie.Need-returns
 returns c = search needs
 
-array-share-prefix-input : tie.Need-array-share-prefix-input
-array-share-prefix-input c =
-    let count = c .before .read .given .0 .0 in
-    let went : ReadAll 65537 (Bytes count) = rw (c .before .read .given .1) at (c .before .before .before .before .read-all .ensures) in
-    let kept : length (c .before .before .before .before .read-all .last .0) ≡ 65537 = c .before .before .before .before .read-all .kept .0 in
-    omega (arith, went .1)
-
-slice-aggregate-run : tie.Need-slice-aggregate-run
-slice-aggregate-run c =
-    let count = c .before .before .read .given .0 .0 in
-    let went : ReadAll 65537 (Bytes count) = rw (c .before .before .read .given .1) at (c .before .before .before .before .before .read-all .ensures) in
-    let kept : length (c .before .before .before .before .before .read-all .last .0) ≡ 65537 = c .before .before .before .before .before .read-all .kept .0 in
-    sym (length-take-le count (c .before .before .before .before .before .read-all .last .0) (omega (arith, went .1)))
-
-run-requires : tie.Need-run-requires
-run-requires c κs = search needs
-
-array-share-prefix-output : tie.Need-array-share-prefix-output
-array-share-prefix-output c =
-    let e = c .run .ensures in
-    let all = e .count-is ∙ sym (ap length (e .written)) in
-    let cut = length-take (c .run .result) (c .run .last .1 .0) in
-    omega arith
-
-slice-aggregate-write-all : tie.Need-slice-aggregate-write-all
-slice-aggregate-write-all c = let e = c .before .run .ensures in e .count-is ∙ sym (ap length (e .written))
-
-write-all-requires : tie.Need-write-all-requires
-write-all-requires c κs = search needs
-
 returns-2 : tie.Need-returns-2
 returns-2 c = search needs
+
+returns-3 : tie.Need-returns-3
+returns-3 c = search needs
 
 pub main-spec : {M : Type 1} → statement M
 main-spec =
@@ -63,13 +87,17 @@ main-spec =
     (tie.spec
     slice-aggregate-read-all
     read-all-requires
-    enum-known-read
+    enum-known-input
+    array-share-prefix-buffer
+    slice-aggregate-answer
+    answer-requires
+    enum-known-input-2
+    array-share-prefix-buffer-2
+    slice-aggregate-answer-2
+    answer-requires-2
     enum-told
+    slice-aggregate-complain
+    complain-requires
     returns
-    array-share-prefix-input
-    slice-aggregate-run
-    run-requires
-    array-share-prefix-output
-    slice-aggregate-write-all
-    write-all-requires
-    returns-2)
+    returns-2
+    returns-3)

@@ -1,10 +1,10 @@
--- `register::read_all` meets its contract: the place lies within the buffer.
+-- `register::read_all` meets its contract: while there is no more than the largest input, the place lies within the buffer.
 use borrow.Author.Needs.{needs}
 use native.Mathlib.Omega.{arith}
 use Prim.Native.Nat.{_-_, _≤_}
 use lib.ListN.{length}
 use mathlib.Core.Path.{_≡_, refl, _∙_}
-use Rattle.register.specs.declared.Input.the-variants.{Bytes}
+use Rattle.register.specs.declared.Got.the-variants.{Bytes}
 use Rattle.register.specs.Reading.{ReadInto}
 use Rattle.register.proofs.read_all.Statement.{statement}
 use Rattle.register.proofs.read_all.Tie as tie
@@ -19,45 +19,59 @@ loop-holds : tie.Need-loop-holds Inv-loop μ-loop
 loop-holds c = (omega arith, refl)
 
 read-into-requires : tie.Need-read-into-requires Inv-loop μ-loop
-read-into-requires c κs = c .before .before .loop .inv .0
+read-into-requires c κs =
+    let loop = c .before .before in
+    omega (arith, loop .loop .inv .1, loop .before .before .pre .long)
 
-enum-known-read : tie.Need-enum-known-read Inv-loop μ-loop
-enum-known-read c = search needs
+enum-known-got : tie.Need-enum-known-got Inv-loop μ-loop
+enum-known-got c = search needs
+
+loop-less : tie.Need-loop-less Inv-loop μ-loop
+loop-less c =
+    let read = c .before .before .before .before .before in
+    let loop = read .before .before .before in
+    let told = c .before .got .given in
+    let went : ReadInto (length (loop .loop .buffer)) (loop .loop .at) (Bytes (told .0 .0)) = rw (told .1) at (read .read-into .ensures) in
+    omega (arith, went .0, went .1, loop .loop .inv .1)
+
+loop-again : tie.Need-loop-again Inv-loop μ-loop
+loop-again c =
+    let read = c .before .before .before .before .before in
+    let loop = read .before .before .before in
+    let told = c .before .got .given in
+    let went : ReadInto (length (loop .loop .buffer)) (loop .loop .at) (Bytes (told .0 .0)) = rw (told .1) at (read .read-into .ensures) in
+    let kept = read .read-into .kept .0 in
+    (omega (arith, went .1, kept), kept ∙ loop .loop .inv .1)
 
 enum-told : tie.Need-enum-told Inv-loop μ-loop
 enum-told c = search needs
 
 same-length : tie.Need-same-length Inv-loop μ-loop
-same-length c = c .before .before .before .before .read-into .kept .0 ∙ c .before .before .before .before .before .before .before .loop .inv .1
+same-length c =
+    let read = c .before .before .before .before in
+    read .read-into .kept .0 ∙ read .before .before .before .loop .inv .1
 
 returns : tie.Need-returns Inv-loop μ-loop
-returns c = tt
+returns c = omega arith
+
+enum-told-2 : tie.Need-enum-told-2 Inv-loop μ-loop
+enum-told-2 c = search needs
 
 same-length-2 : tie.Need-same-length-2 Inv-loop μ-loop
-same-length-2 c = c .before .before .before .before .before .before .read-into .kept .0 ∙ c .before .before .before .before .before .before .before .before .before .loop .inv .1
+same-length-2 c =
+    let read = c .before .before .before .before in
+    read .read-into .kept .0 ∙ read .before .before .before .loop .inv .1
 
 returns-2 : tie.Need-returns-2 Inv-loop μ-loop
-returns-2 c = let inv = c .before .before .before .before .before .before .before .before .before .loop .inv in (omega arith, omega (arith, inv .0, inv .1))
-
-loop-less : tie.Need-loop-less Inv-loop μ-loop
-loop-less c =
-    let went : ReadInto (length (c .before .before .before .before .before .before .before .before .before .loop .buffer)) (c .before .before .before .before .before .before .before .before .before .loop .at) (Bytes (c .before .before .read .given .0 .0)) = rw (c .before .before .read .given .1) at (c .before .before .before .before .before .before .read-into .ensures) in
-    let inv = c .before .before .before .before .before .before .before .before .before .loop .inv in
-    let kept = c .before .before .before .before .before .before .read-into .kept .0 in
-    omega (arith, went .0, went .1, inv .0, inv .1)
-
-loop-again : tie.Need-loop-again Inv-loop μ-loop
-loop-again c =
-    let went : ReadInto (length (c .before .before .before .before .before .before .before .before .before .loop .buffer)) (c .before .before .before .before .before .before .before .before .before .loop .at) (Bytes (c .before .before .read .given .0 .0)) = rw (c .before .before .read .given .1) at (c .before .before .before .before .before .before .read-into .ensures) in
-    let inv = c .before .before .before .before .before .before .before .before .before .loop .inv in
-    let kept = c .before .before .before .before .before .before .read-into .kept .0 in
-    (omega (arith, went .1, kept), kept ∙ inv .1)
+returns-2 c = tt
 
 same-length-3 : tie.Need-same-length-3 Inv-loop μ-loop
 same-length-3 c = c .before .loop .inv .1
 
 returns-3 : tie.Need-returns-3 Inv-loop μ-loop
-returns-3 c = let inv = c .before .loop .inv in (omega arith, omega (arith, inv .0, inv .1))
+returns-3 c =
+    let loop = c .before in
+    omega (arith, loop .loop .inv .0, loop .loop .inv .1, loop .before .before .pre .long)
 
 pub read-all-spec : {M : Type 1} → statement M
 read-all-spec =
@@ -67,13 +81,14 @@ read-all-spec =
     μ-loop
     loop-holds
     read-into-requires
-    enum-known-read
+    enum-known-got
+    loop-less
+    loop-again
     enum-told
     same-length
     returns
+    enum-told-2
     same-length-2
     returns-2
-    loop-less
-    loop-again
     same-length-3
     returns-3)

@@ -11,13 +11,13 @@ use Rattle.jobtext.proofs.job.read_head.Tie as tie
 
 -- after the first line
 after-1 : (c : tie.After-known-told) → Progress head-lines (c .before .before .before .before .before .before .args .text .now) 0 (c .before .l1 .given .0 .0 ∷ []) (drop 1 head-lines) (c .before .l1 .given .0 .1 .0)
-after-1 c = goes-on (starts (omega arith)) (sym (c .before .l1 .given .1) ∙ c .before .before .before .read-line .ensures)
+after-1 c = goes-on (starts (omega arith)) (sym (c .before .l1 .given .1) ∙ c .before .before .before .read-line .ensures .answer-is)
 
 -- after the second
 after-2 :
     (c : tie.After-known-told2) →
     Progress head-lines (c .before .before .before .before .before .before .before .before .before .before .before .args .text .now) 0 (c .before .before .before .before .before .before .l1 .given .0 .0 ∷ c .before .l2 .given .0 .0 ∷ []) (drop 2 head-lines) (c .before .l2 .given .0 .1 .0)
-after-2 c = goes-on (after-1 (c .before .before .before .before .before)) (sym (c .before .l2 .given .1) ∙ c .before .before .before .read-line2 .ensures)
+after-2 c = goes-on (after-1 (c .before .before .before .before .before)) (sym (c .before .l2 .given .1) ∙ c .before .before .before .read-line2 .ensures .answer-is)
 
 slice-aggregate-read-line : tie.Need-slice-aggregate-read-line
 slice-aggregate-read-line c = search needs
@@ -37,7 +37,7 @@ no-head-requires c κs = search needs
 returns : tie.Need-returns
 returns c =
     let told = c .before .enum-told .given in
-    c .no-head .ensures ∙ rw (told .1, stops (starts {all = head-lines} {text = c .before .before .before .before .before .before .args .text .now} (omega arith)) (sym (told .1) ∙ c .before .before .before .read-line .ensures)) refl
+    c .no-head .ensures ∙ rw (told .1, stops (starts {all = head-lines} {text = c .before .before .before .before .before .before .args .text .now} (omega arith)) (sym (told .1) ∙ c .before .before .before .read-line .ensures .answer-is)) refl
 
 slice-aggregate-read-line-2 : tie.Need-slice-aggregate-read-line-2
 slice-aggregate-read-line-2 c = search needs
@@ -57,7 +57,7 @@ no-head-requires-2 c κs = search needs
 returns-2 : tie.Need-returns-2
 returns-2 c =
     let told = c .before .enum-told2 .given in
-    c .no-head2 .ensures ∙ rw (told .1, stops (after-1 (c .before .before .before .before .before)) (sym (told .1) ∙ c .before .before .before .read-line2 .ensures)) refl
+    c .no-head2 .ensures ∙ rw (told .1, stops (after-1 (c .before .before .before .before .before)) (sym (told .1) ∙ c .before .before .before .read-line2 .ensures .answer-is)) refl
 
 slice-aggregate-read-ranged : tie.Need-slice-aggregate-read-ranged
 slice-aggregate-read-ranged c = search needs
@@ -77,10 +77,10 @@ no-head-requires-3 c κs = search needs
 returns-3 : tie.Need-returns-3
 returns-3 c =
     let told = c .before .enum-told3 .given in
-    c .no-head3 .ensures ∙ rw (told .1, stops (after-2 (c .before .before .before .before .before)) (sym (told .1) ∙ c .before .before .before .read-ranged .ensures)) refl
+    c .no-head3 .ensures ∙ rw (told .1, stops (after-2 (c .before .before .before .before .before)) (sym (told .1) ∙ c .before .before .before .read-ranged .ensures .answer-is)) refl
 
 returns-4 : tie.Need-returns-4
-returns-4 c = rw (ends (goes-on (after-2 (c .before .before .before .before .before)) (sym (c .before .l3 .given .1) ∙ c .before .before .before .read-ranged .ensures))) refl
+returns-4 c = rw (ends (goes-on (after-2 (c .before .before .before .before .before)) (sym (c .before .l3 .given .1) ∙ c .before .before .before .read-ranged .ensures .answer-is))) refl
 
 pub read-head-spec : {M : Type 1} → statement M
 read-head-spec =

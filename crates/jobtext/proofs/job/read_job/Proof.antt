@@ -8,7 +8,8 @@ use Rattle.rules.specs.Words.{most-tasks, most-messages}
 use Rattle.jobtext.specs.declared.line.Line.the-variants.{Figure}
 use Rattle.jobtext.specs.Lines.{Due, parsed, line, lines}
 use Rattle.jobtext.specs.JobText.{messages-key, task-lines, count-lines, times, groups, task-said, blank-task, filled}
-use Rattle.jobtext.specs.Answers.{line-said, AskMany}
+use Rattle.jobtext.specs.Reader.{line-said}
+use Rattle.jobtext.specs.Parts.{AskMany}
 use Rattle.jobtext.proofs.Progress.{line-read, line-within, line-ranged}
 use Rattle.jobtext.proofs.Grouped.{one-line, one-refused}
 use Rattle.jobtext.proofs.Staged.{HeadRead, head-read, head-unread, group-figures, group-refusal, refused-read, at-head, at-tasks, at-count, at-messages, whole-read}
@@ -50,7 +51,7 @@ abbrev messages-from : tie.After-known-told3 → ℕ
 messages-from c = c .before .line .given .0 .1 .0
 
 count-line : (c : tie.After-known-told3) → Figure (messages-count c) (messages-from c) ≡ line-said (line count-due (text-at (c .before .before .before .before .before .before .before .before .before)) (tasks-end (c .before .before .before .before .before)))
-count-line c = sym (c .before .line .given .1) ∙ c .before .before .before .read-ranged .ensures
+count-line c = sym (c .before .line .given .1) ∙ c .before .before .before .read-ranged .ensures .answer-is
 
 count-asked : (c : tie.After-known-told3) → AskMany (text-at (c .before .before .before .before .before .before .before .before .before)) (messages-from c) (messages-count c) most-messages
 count-asked c =
@@ -116,8 +117,8 @@ enum-known-line c = search needs
 enum-told-3 : tie.Need-enum-told-3
 enum-told-3 c = search needs
 
-outcome-of-requires : tie.Need-outcome-of-requires
-outcome-of-requires c κs = search needs
+stop-at-requires : tie.Need-stop-at-requires
+stop-at-requires c κs = search needs
 
 no-job-requires-3 : tie.Need-no-job-requires-3
 no-job-requires-3 c κs = search needs
@@ -127,14 +128,14 @@ returns-3 c =
     let told = c .before .before .enum-told3 .given in
     let text = text-at (c .before .before .before .before .before .before .before .before .before .before) in
     let tasks = tasks-of (c .before .before .before .before .before .before) in
-    let count = one-refused count-due text (tasks-end (c .before .before .before .before .before .before)) (told .0 .0) (told .0 .1 .0) (sym (told .1) ∙ c .before .before .before .before .read-ranged .ensures) in
+    let count = one-refused count-due text (tasks-end (c .before .before .before .before .before .before)) (told .0 .0) (told .0 .1 .0) (sym (told .1) ∙ c .before .before .before .before .read-ranged .ensures .answer-is) in
     refused-read
     text
     (told .0 .0)
     (told .0 .1 .0)
     (c .no-job3 .result)
     (at-count text _ _ _ _ (head-of (c .before .before .before .before .before .before .before .before .before .before)) (tasks .0) (tasks-end (c .before .before .before .before .before .before)) (tasks .1) (told .0 .0) (told .0 .1 .0) count)
-    (c .no-job3 .ensures ∙ rw (c .before .outcome-of .ensures, told .1) refl)
+    (c .no-job3 .ensures ∙ rw (c .before .stop-at .ensures, told .1) refl)
 
 read-messages-requires : tie.Need-read-messages-requires
 read-messages-requires c κs = count-asked c
@@ -213,7 +214,7 @@ read-job-spec =
     read-ranged-requires
     enum-known-line
     enum-told-3
-    outcome-of-requires
+    stop-at-requires
     no-job-requires-3
     returns-3
     read-messages-requires

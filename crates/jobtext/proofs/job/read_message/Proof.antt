@@ -11,13 +11,13 @@ use Rattle.jobtext.proofs.job.read_message.Tie as tie
 
 -- after the first line
 after-1 : (c : tie.After-known-told) → Progress message-lines (c .before .before .before .before .before .before .args .text .now) (c .before .before .before .before .before .before .args .at) (c .before .l1 .given .0 .0 ∷ []) (drop 1 message-lines) (c .before .l1 .given .0 .1 .0)
-after-1 c = goes-on (starts (c .before .before .before .before .before .before .pre)) (sym (c .before .l1 .given .1) ∙ c .before .before .before .read-line .ensures)
+after-1 c = goes-on (starts (c .before .before .before .before .before .before .pre)) (sym (c .before .l1 .given .1) ∙ c .before .before .before .read-line .ensures .answer-is)
 
 -- after the second
 after-2 :
     (c : tie.After-known-told2) →
     Progress message-lines (c .before .before .before .before .before .before .before .before .before .before .before .args .text .now) (c .before .before .before .before .before .before .before .before .before .before .before .args .at) (c .before .before .before .before .before .before .l1 .given .0 .0 ∷ c .before .l2 .given .0 .0 ∷ []) (drop 2 message-lines) (c .before .l2 .given .0 .1 .0)
-after-2 c = goes-on (after-1 (c .before .before .before .before .before)) (sym (c .before .l2 .given .1) ∙ c .before .before .before .read-line2 .ensures)
+after-2 c = goes-on (after-1 (c .before .before .before .before .before)) (sym (c .before .l2 .given .1) ∙ c .before .before .before .read-line2 .ensures .answer-is)
 
 slice-aggregate-read-line : tie.Need-slice-aggregate-read-line
 slice-aggregate-read-line c = search needs
@@ -49,7 +49,7 @@ returns c =
     (told .0 .0)
     (told .0 .1 .0)
     (starts (start .pre))
-    (c .before .before .before .read-line .ensures)
+    (c .before .before .before .read-line .ensures .answer-is)
     (told .1)
     (c .no-message .ensures)
 
@@ -83,7 +83,7 @@ returns-2 c =
     (told .0 .0)
     (told .0 .1 .0)
     (after-1 (c .before .before .before .before .before))
-    (c .before .before .before .read-line2 .ensures)
+    (c .before .before .before .read-line2 .ensures .answer-is)
     (told .1)
     (c .no-message2 .ensures)
 
@@ -117,14 +117,14 @@ returns-3 c =
     (told .0 .0)
     (told .0 .1 .0)
     (after-2 (c .before .before .before .before .before))
-    (c .before .before .before .read-line3 .ensures)
+    (c .before .before .before .read-line3 .ensures .answer-is)
     (told .1)
     (c .no-message3 .ensures)
 
 returns-4 : tie.Need-returns-4
 returns-4 c =
     let start = c .before .before .before .before .before .before .before .before .before .before .before .before .before .before .before .before in
-    let all = ends (goes-on (after-2 (c .before .before .before .before .before)) (sym (c .before .l3 .given .1) ∙ c .before .before .before .read-line3 .ensures)) in
+    let all = ends (goes-on (after-2 (c .before .before .before .before .before)) (sym (c .before .l3 .given .1) ∙ c .before .before .before .read-line3 .ensures .answer-is)) in
     read-group message-said message-lines (start .args .text .now) (start .args .at) _ _ _ all refl
 
 pub read-message-spec : {M : Type 1} → statement M

@@ -38,8 +38,8 @@ enum-known-line c = search needs
 enum-told : tie.Need-enum-told Inv-loop μ-loop
 enum-told c = search needs
 
-outcome-of-requires : tie.Need-outcome-of-requires Inv-loop μ-loop
-outcome-of-requires c κs = tt
+stop-at-requires : tie.Need-stop-at-requires Inv-loop μ-loop
+stop-at-requires c κs = tt
 
 returns : tie.Need-returns Inv-loop μ-loop
 returns c =
@@ -47,9 +47,9 @@ returns c =
     let start = at .before .before in
     let text = start .args .text .now in
     let told = c .before .enum-told .given in
-    let line = one-refused (any-figure run-key) text (at .loop .next) (told .0 .0) (told .0 .1 .0) (sym (told .1) ∙ c .before .before .before .read-line .ensures) in
+    let line = one-refused (any-figure run-key) text (at .loop .next) (told .0 .0) (told .0 .1 .0) (sym (told .1) ∙ c .before .before .before .read-line .ensures .answer-is) in
     let all = filled-stops first 0 run 4 4 text (start .args .at) (at .loop .runs) (at .loop .next) (at .loop .i) (c .before .before .before .before .before .loop-test .taken) (at .loop .inv) (told .0 .0) (told .0 .1 .0) line in
-    stopped-group (λ fs. fs) _ text (start .args .at) (c .outcome-of .result) (at .loop .runs) (told .0 .0) (told .0 .1 .0) all (c .outcome-of .ensures ∙ rw (told .1) refl)
+    stopped-group (λ fs. fs) _ text (start .args .at) (c .stop-at .result) (at .loop .runs) (told .0 .0) (told .0 .1 .0) all (c .stop-at .ensures ∙ rw (told .1) refl)
 
 mul-runs : tie.Need-mul-runs Inv-loop μ-loop
 mul-runs c = omega arith
@@ -69,7 +69,7 @@ loop-again c =
     let start = at .before .before in
     let text = start .args .text .now in
     let given = c .before .line .given in
-    let line = one-line (any-figure run-key) text (at .loop .next) (given .0 .0) (given .0 .1 .0) (sym (given .1) ∙ c .before .before .before .read-line .ensures) in
+    let line = one-line (any-figure run-key) text (at .loop .next) (given .0 .0) (given .0 .1 .0) (sym (given .1) ∙ c .before .before .before .read-line .ensures .answer-is) in
     filled-more
     first
     0
@@ -107,7 +107,7 @@ read-runs-spec =
     read-line-requires
     enum-known-line
     enum-told
-    outcome-of-requires
+    stop-at-requires
     returns
     mul-runs
     array-write-runs

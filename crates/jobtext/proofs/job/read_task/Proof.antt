@@ -11,13 +11,13 @@ use Rattle.jobtext.proofs.job.read_task.Tie as tie
 
 -- after the first line
 after-1 : (c : tie.After-known-told) → Progress task-lines (c .before .before .before .before .before .before .args .text .now) (c .before .before .before .before .before .before .args .at) (c .before .l1 .given .0 .0 ∷ []) (drop 1 task-lines) (c .before .l1 .given .0 .1 .0)
-after-1 c = goes-on (starts (c .before .before .before .before .before .before .pre)) (sym (c .before .l1 .given .1) ∙ c .before .before .before .read-line .ensures)
+after-1 c = goes-on (starts (c .before .before .before .before .before .before .pre)) (sym (c .before .l1 .given .1) ∙ c .before .before .before .read-line .ensures .answer-is)
 
 -- after the second
 after-2 :
     (c : tie.After-known-told2) →
     Progress task-lines (c .before .before .before .before .before .before .before .before .before .before .before .args .text .now) (c .before .before .before .before .before .before .before .before .before .before .before .args .at) (c .before .before .before .before .before .before .l1 .given .0 .0 ∷ c .before .l2 .given .0 .0 ∷ []) (drop 2 task-lines) (c .before .l2 .given .0 .1 .0)
-after-2 c = goes-on (after-1 (c .before .before .before .before .before)) (sym (c .before .l2 .given .1) ∙ c .before .before .before .read-line2 .ensures)
+after-2 c = goes-on (after-1 (c .before .before .before .before .before)) (sym (c .before .l2 .given .1) ∙ c .before .before .before .read-line2 .ensures .answer-is)
 
 slice-aggregate-read-line : tie.Need-slice-aggregate-read-line
 slice-aggregate-read-line c = search needs
@@ -49,7 +49,7 @@ returns c =
     (told .0 .0)
     (told .0 .1 .0)
     (starts (start .pre))
-    (c .before .before .before .read-line .ensures)
+    (c .before .before .before .read-line .ensures .answer-is)
     (told .1)
     (c .no-task .ensures)
 
@@ -83,7 +83,7 @@ returns-2 c =
     (told .0 .0)
     (told .0 .1 .0)
     (after-1 (c .before .before .before .before .before))
-    (c .before .before .before .read-line2 .ensures)
+    (c .before .before .before .read-line2 .ensures .answer-is)
     (told .1)
     (c .no-task2 .ensures)
 

@@ -1,6 +1,6 @@
 -- `jobtext::line::read_ranged` meets its contract: each return is one of the line's tests.
 use mathlib.Core.Path.{_≡_, sym, ap, _∙_, subst}
-use mathlib.Core.Bool.{true, false}
+use mathlib.Core.Bool.{true}
 use mathlib.Core.List.{List}
 use Prim.Native.Nat.{ℕ, _-_}
 use native.Mathlib.Omega.{arith}
@@ -8,7 +8,7 @@ use lib.ListN.{length, take, drop}
 use borrow.Author.Needs.{needs}
 use borrow.Author.Tests.{not-true, not-false}
 use Rattle.jobtext.specs.Lines.{Due, begins}
-use Rattle.jobtext.specs.Answers.{NumberIs}
+use Rattle.jobtext.specs.Parts.{NumberIs}
 use Rattle.jobtext.proofs.Lined.{part, not-begun, key-within, ill-line, below-range, above-range, good-line, next-within}
 use Rattle.jobtext.proofs.line.read_ranged.Statement.{statement}
 use Rattle.jobtext.proofs.line.read_ranged.Tie as tie

@@ -1,20 +1,12 @@
 -- `script::acts::submission` meets its contract.
-use mathlib.Core.Path.{_∙_, subst}
-use mathlib.Core.List.{List}
-use Prim.Native.Nat.{ℕ}
+use mathlib.Core.Path.{ap, _∙_}
 use native.Mathlib.Omega.{arith}
-use lib.ListN.{length, drop, length-drop}
+use lib.ListN.{length-drop}
 use borrow.Author.Needs.{needs}
-use Rattle.jobtext.specs.Answers.{Reads}
-use Rattle.jobtext.proofs.Lined.{part}
-use Rattle.script.specs.declared.acts.Turn.the-variants.{Unread}
-use Rattle.script.proofs.Acted.{said-turn, job-read, job-read-within, job-unread}
+use Rattle.script.specs.Acts.{unread}
+use Rattle.script.proofs.Acted.{job-read, job-read-within, job-unread}
 use Rattle.script.proofs.acts.submission.Statement.{statement}
 use Rattle.script.proofs.acts.submission.Tie as tie
-
--- the job reader read the part from the job's first line on
-reads : (c : tie.After-read-job) → Reads (drop (c .before .before .before .args .from) (c .before .before .before .args .input .now)) (c .read-job .result)
-reads c = subst (λ (t : List ℕ). Reads t (c .read-job .result)) (part (c .before .before .before .args .input .now) (c .before .before .before .args .from)) (c .read-job .ensures)
 
 sub-read-job : tie.Need-sub-read-job
 sub-read-job c = search needs
@@ -31,29 +23,39 @@ read-job-requires c κs = search needs
 enum-known-outcome : tie.Need-enum-known-outcome
 enum-known-outcome c = search needs
 
-add-t13 : tie.Need-add-t13
-add-t13 c =
-    let start = c .before .before .before .before .before .before .before in
-    let within = job-read-within (drop (start .args .from) (start .args .input .now)) (c .before .before .before .before .read-job .result) (reads (c .before .before .before .before)) (c .before .before .outcome .given .0 .0) (c .before .before .outcome .given .1) in
-    omega (arith, length-drop (start .args .from) (start .args .input .now), start .good)
+enum-told : tie.Need-enum-told
+enum-told c = search needs
 
-enum-known-outcome-2 : tie.Need-enum-known-outcome-2
-enum-known-outcome-2 c = search needs
+outcome-number-requires : tie.Need-outcome-number-requires
+outcome-number-requires c κs = search needs
 
 without-call-requires : tie.Need-without-call-requires
 without-call-requires c κs = search needs
 
 returns : tie.Need-returns
 returns c =
+    let a = c .before .before .before .before .before .before .before .args in
+    let read = c .before .before .before .before .read-job in
+    let told = c .before .before .enum-told .given in
+    c .without-call .ensures
+    ∙ ap unread (c .before .outcome-number .ensures)
+    ∙ job-unread (a .input .now) (a .from) (read .result) (read .ensures) (told .0 .0) (told .0 .1 .0) (told .1)
+
+add-t8 : tie.Need-add-t8
+add-t8 c =
     let start = c .before .before .before .before .before .before .before in
-    job-read (drop (start .args .from) (start .args .input .now)) (c .before .before .before .before .read-job .result) (reads (c .before .before .before .before)) (start .args .from) (c .before .before .outcome .given .0 .0) (c .before .before .outcome .given .1)
+    let a = start .args in
+    let read = c .before .before .before .before .read-job in
+    let given = c .before .before .outcome .given in
+    let within = job-read-within (a .input .now) (a .from) (read .result) (read .ensures) (given .0 .0) (given .1) in
+    omega (arith, length-drop (a .from) (a .input .now), start .good)
 
 returns-2 : tie.Need-returns-2
 returns-2 c =
-    let start = c .before .before .before .before .before .before .before in
-    let told = c .before .before .outcome2 .given in
-    said-turn (c .without-call .result) (Unread (told .0 .0)) (c .without-call .ensures)
-    ∙ job-unread (drop (start .args .from) (start .args .input .now)) (c .before .before .before .before .read-job .result) (reads (c .before .before .before .before)) (start .args .from) (told .0 .0) (told .0 .1 .0) (told .1)
+    let a = c .before .before .before .before .before .before .before .args in
+    let read = c .before .before .before .before .read-job in
+    let given = c .before .before .outcome .given in
+    job-read (a .input .now) (a .from) (read .result) (read .ensures) (given .0 .0) (given .1)
 
 pub submission-spec : {M : Type 1} → statement M
 submission-spec =
@@ -64,8 +66,9 @@ submission-spec =
     part-read-job-end
     read-job-requires
     enum-known-outcome
-    add-t13
-    enum-known-outcome-2
+    enum-told
+    outcome-number-requires
     without-call-requires
     returns
+    add-t8
     returns-2)

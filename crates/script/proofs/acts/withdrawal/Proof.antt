@@ -1,24 +1,15 @@
 -- `script::acts::withdrawal` meets its contract.
-use mathlib.Core.Path.{_≡_, sym, ap, _∙_}
-use mathlib.Core.List.{List}
-use Prim.Native.Nat.{ℕ}
+use mathlib.Core.Path.{ap, _∙_}
 use native.Mathlib.Omega.{arith}
-use lib.ListN.{length, drop, length-drop}
+use lib.ListN.{length-drop}
 use borrow.Author.Needs.{needs}
 use Rattle.rules.specs.Refusals.{withdraws}
 use Rattle.reservation.specs.declared.calls.Kind.the-variants.{Withdraw}
-use Rattle.jobtext.specs.Lines.{any-figure, line}
 use Rattle.jobtext.specs.JobText.{job-key}
-use Rattle.jobtext.specs.Answers.{line-said}
-use Rattle.jobtext.proofs.Lined.{part}
-use Rattle.script.specs.declared.acts.Turn.the-variants.{Unread}
-use Rattle.script.proofs.Acted.{said-turn, said-call, number-read, number-unread, number-within}
+use Rattle.script.specs.Acts.{unread}
+use Rattle.script.proofs.Acted.{said-call, number-read, number-unread, number-within}
 use Rattle.script.proofs.acts.withdrawal.Statement.{statement}
 use Rattle.script.proofs.acts.withdrawal.Tie as tie
-
--- the line was read of the part from its first byte on
-reads : (c : tie.After-read-line) → c .read-line .result ≡ line-said (line (any-figure job-key) (drop (c .before .before .before .before .args .from) (c .before .before .before .before .args .input .now)) 0)
-reads c = c .read-line .ensures ∙ ap (λ (t : List ℕ). line-said (line (any-figure job-key) t 0)) (part (c .before .before .before .before .args .input .now) (c .before .before .before .before .args .from))
 
 sub-read-line : tie.Need-sub-read-line
 sub-read-line c = search needs
@@ -38,35 +29,43 @@ read-line-requires c κs = search needs
 enum-known-line : tie.Need-enum-known-line
 enum-known-line c = search needs
 
-add-with-number : tie.Need-add-with-number
-add-with-number c =
-    let start = c .before .before .before .before .before .before .before in
-    let given = c .before .line .given in
-    let within = number-within withdraws (start .args .from) (any-figure job-key) (drop (start .args .from) (start .args .input .now)) (given .0 .0) (given .0 .1 .0) (sym (given .1) ∙ reads (c .before .before .before)) in
-    omega (arith, length-drop (start .args .from) (start .args .input .now), start .good)
+enum-told : tie.Need-enum-told
+enum-told c = search needs
 
-with-number-requires : tie.Need-with-number-requires
-with-number-requires c κs = search needs
-
-enum-known-line-2 : tie.Need-enum-known-line-2
-enum-known-line-2 c = search needs
+line-number-requires : tie.Need-line-number-requires
+line-number-requires c κs = search needs
 
 without-call-requires : tie.Need-without-call-requires
 without-call-requires c κs = search needs
 
 returns : tie.Need-returns
 returns c =
-    let start = c .before .before .before .before .before .before .before .before in
-    let given = c .before .before .line .given in
-    said-call (c .with-number .result) _ (Withdraw (given .0 .0)) (c .with-number .ensures .0) (c .with-number .ensures .1)
-    ∙ number-read withdraws (start .args .from) (any-figure job-key) (drop (start .args .from) (start .args .input .now)) (given .0 .0) (given .0 .1 .0) (sym (given .1) ∙ reads (c .before .before .before .before))
+    let a = c .before .before .before .before .before .before .before .before .args in
+    let read = c .before .before .before .before .read-line in
+    let told = c .before .before .enum-told .given in
+    c .without-call .ensures
+    ∙ ap unread (c .before .line-number .ensures)
+    ∙ number-unread withdraws job-key (a .input .now) (a .from) (read .result) (read .ensures) (told .0 .0) (told .0 .1 .0) (told .1)
+
+add-with-number : tie.Need-add-with-number
+add-with-number c =
+    let start = c .before .before .before .before .before .before .before in
+    let a = start .args in
+    let read = c .before .before .before .read-line in
+    let given = c .before .line .given in
+    let within = number-within withdraws job-key (a .input .now) (a .from) (read .result) (read .ensures) (given .0 .0) (given .0 .1 .0) (given .1) in
+    omega (arith, length-drop (a .from) (a .input .now), start .good)
+
+with-number-requires : tie.Need-with-number-requires
+with-number-requires c κs = search needs
 
 returns-2 : tie.Need-returns-2
 returns-2 c =
-    let start = c .before .before .before .before .before .before .before .before in
-    let told = c .before .before .line2 .given in
-    said-turn (c .without-call .result) (Unread (told .0 .0)) (c .without-call .ensures)
-    ∙ number-unread withdraws (start .args .from) (any-figure job-key) (drop (start .args .from) (start .args .input .now)) (told .0 .0) (told .0 .1 .0) (sym (told .1) ∙ reads (c .before .before .before .before))
+    let a = c .before .before .before .before .before .before .before .before .args in
+    let read = c .before .before .before .before .read-line in
+    let given = c .before .before .line .given in
+    said-call (c .with-number .result) _ (Withdraw (given .0 .0)) (c .with-number .ensures .0) (c .with-number .ensures .1)
+    ∙ number-read withdraws job-key (a .input .now) (a .from) (read .result) (read .ensures) (given .0 .0) (given .0 .1 .0) (given .1)
 
 pub withdrawal-spec : {M : Type 1} → statement M
 withdrawal-spec =
@@ -78,9 +77,10 @@ withdrawal-spec =
     slice-aggregate-read-line
     read-line-requires
     enum-known-line
-    add-with-number
-    with-number-requires
-    enum-known-line-2
+    enum-told
+    line-number-requires
     without-call-requires
     returns
+    add-with-number
+    with-number-requires
     returns-2)

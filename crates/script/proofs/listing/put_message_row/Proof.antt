@@ -3,7 +3,7 @@ use mathlib.Core.List.{List, _++_}
 use Prim.Native.Nat.{ℕ, _+_}
 use native.Mathlib.Omega.{arith}
 use borrow.Author.Needs.{needs}
-use Rattle.jobtext.specs.Put.{field}
+use Rattle.jobtext.specs.Figures.{field}
 use Rattle.jobtext.specs.JobText.{job-key, from-key, to-key}
 use Rattle.script.specs.Replies.{task-key}
 use Rattle.script.specs.Listing.{link-key, start-key, finish-key}

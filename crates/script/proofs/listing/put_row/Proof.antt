@@ -3,7 +3,7 @@ use mathlib.Core.Path.{sym, subst}
 use borrow.Author.Needs.{needs}
 use Rattle.rules.specs.declared.Holder.{Holder}
 use Rattle.script.specs.Listing.{row-lines}
-use Rattle.script.specs.Answers.{PutsAtMost, most-row}
+use Rattle.script.specs.Parts.{PutsAtMost, most-row}
 use Rattle.script.proofs.listing.put_row.Statement.{statement}
 use Rattle.script.proofs.listing.put_row.Tie as tie
 

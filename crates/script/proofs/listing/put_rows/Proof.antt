@@ -1,7 +1,6 @@
 -- `script::listing::put_rows` meets its contract.
 use native.Mathlib.Omega.{arith}
 use Prim.Native.Nat.{_-_}
-use lib.ListN.{length}
 use Rattle.script.proofs.Listed.{RowsListed, rows-none, row-room, rows-more, rows-all}
 use Rattle.script.proofs.listing.put_rows.Statement.{statement}
 use Rattle.script.proofs.listing.put_rows.Tie as tie

@@ -4,7 +4,7 @@ use borrow.Author.Needs.{needs}
 use Rattle.reservation.specs.declared.calls.Kind.{Kind}
 use Rattle.reservation.specs.Kinds.{kind-of}
 use Rattle.script.specs.Replies.{reply}
-use Rattle.script.specs.Answers.{PutsAtMost, most-for}
+use Rattle.script.specs.Parts.{PutsAtMost, most-for}
 use Rattle.script.proofs.replies.put_reply.Statement.{statement}
 use Rattle.script.proofs.replies.put_reply.Tie as tie
 

@@ -3,7 +3,7 @@ use mathlib.Core.List.{List, _++_}
 use Prim.Native.Nat.{ℕ, _+_}
 use native.Mathlib.Omega.{arith}
 use borrow.Author.Needs.{needs}
-use Rattle.jobtext.specs.Put.{field}
+use Rattle.jobtext.specs.Figures.{field}
 use Rattle.script.specs.Replies.{answer-key, task-key, cost-key, rows-key}
 use Rattle.script.proofs.Fields.{Within, first-field, within-field, within-room, at-most}
 use Rattle.script.proofs.replies.put_submitted.Statement.{statement}

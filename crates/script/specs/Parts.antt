@@ -1,9 +1,8 @@
--- What the code's functions answer, in the words of the definitions.
+-- Between functions: what the parts of `run` ask and answer, in the words of the definitions. Document 01, "The program `register`".
 use mathlib.Core.Path.{_≡_}
-use mathlib.Core.List.{List, map, List·Memᴰ}
-use Prim.Native.Nat.{ℕ, _+_, _*_, _≤_, _<_}
+use mathlib.Core.List.{List, _∷_, _++_, map, List·Memᴰ}
+use Prim.Native.Nat.{ℕ, _+_, _-_, _*_, _≤_, _<_}
 use lib.Dec.{ltb}
-use mathlib.Core.Option.{Option, none, some}
 use lib.ListN.{length, getD, take, drop}
 use Rattle.rules.specs.declared.Holder.{Holder}
 use Rattle.rules.specs.declared.Holder.the-variants.{TaskOn, MessageOn}
@@ -11,7 +10,7 @@ use Rattle.rules.specs.declared.Job.{Job}
 use Rattle.rules.specs.declared.Row.{Row}
 use Rattle.rules.specs.declared.Answer.{Answer}
 use Rattle.rules.specs.Placing.{no-row}
-use Rattle.rules.specs.Words.{row-limit, default-setup}
+use Rattle.rules.specs.Words.{row-limit}
 use Rattle.reservation.specs.declared.calls.Call.{Call}
 use Rattle.reservation.specs.declared.calls.Kind.{Kind}
 use Rattle.reservation.specs.declared.calls.Kind.the-variants.{Submit, Withdraw, Clock}
@@ -20,16 +19,16 @@ use Rattle.reservation.specs.Registers.{Valid}
 use Rattle.reservation.specs.Kinds.{kind-of, call-of}
 use Rattle.jobtext.specs.Put.{Puts}
 use Rattle.script.specs.declared.acts.Turn.{Turn}
-use Rattle.script.specs.declared.acts.Turn.the-variants.{Ended, Called, Unread}
+use Rattle.script.specs.declared.acts.Turn.the-variants.{Called, Unread}
 use Rattle.script.specs.declared.acts.NextAct.{NextAct}
-use Rattle.script.specs.Acts.{Act, ended, call, unread, act}
+use Rattle.script.specs.Acts.{Act, call, unread}
 use Rattle.script.specs.Replies.{reply}
 use Rattle.script.specs.Listing.{insert-before, sorted}
-use Rattle.script.specs.Program.{input-limit, program}
+use Rattle.script.specs.Program.{input-limit}
+use Rattle.script.specs.Contract.{output-size}
 
 -- the act that a turn of the code is; its call stands beside it
 abbrev pub turn-act : Turn → Call → Act
-turn-act Ended c = ended
 turn-act (Called next) c = call (call-of c) next
 turn-act (Unread number) c = unread number
 
@@ -89,6 +88,19 @@ pub record AskCode (row : Row) (place : ℕ) : Type 0 where
 abbrev pub insert-number : ℕ → List ℕ → List ℕ
 insert-number n ns = insert-before (λ m. ltb n m) n ns
 
+-- a key at a place among the first so many, and those from there on one place further
+abbrev pub with-key : (keys : List ℕ) (count at key : ℕ) → List ℕ
+with-key keys count at key = take at keys ++ key ∷ take (count - at) (drop at keys)
+
+-- where a key goes: before the first that is larger
+pub record PlaceFor (keys : List ℕ) (count key place : ℕ) : Type 0 where
+  pub within : place ≤ count
+  pub inserts : insert-number key (take count keys) ≡ with-key keys count place key
+
+pub record KeyPut (old : List ℕ) (count at key : ℕ) (new : List ℕ) : Type 0 where
+  pub long : length new ≡ length old
+  pub keys-are : take (count + 1) new ≡ with-key old count at key
+
 -- there is room for a key more
 pub record AskKeys (keys : List ℕ) (count : ℕ) : Type 0 where
   pub long : length keys ≡ row-limit
@@ -116,30 +128,14 @@ pub record AskListing (r : Register) (output : List ℕ) (at : ℕ) : Type 0 whe
   pub valid : Valid r
   pub room : at + most-listing ≤ length output
 
--- the reading refusal with which a turn ends a script, if it does
-abbrev pub stop-of : Turn → Option ℕ
-stop-of Ended = none
-stop-of (Called next) = none
-stop-of (Unread number) = some number
-
+-- the most bytes that a reading refusal takes
 abbrev pub most-stop : ℕ
 most-stop = 29
 
--- the output buffer is large enough for every input: two bytes for each byte read, the reading refusal, and the listing
-abbrev pub output-size : ℕ
-output-size = 184_320
-
-pub record AskFinish (r : Register) (output : List ℕ) (at : ℕ) : Type 0 where
+pub record AskRefusal (r : Register) (output : List ℕ) (at : ℕ) : Type 0 where
   pub valid : Valid r
   pub room : at + (most-stop + most-listing) ≤ length output
 
 pub record AskCalls (input output : List ℕ) : Type 0 where
   pub few : length input ≤ input-limit
   pub room : length output ≡ output-size
-
--- `run`: the bytes of the program stand from the buffer's start on, and the rest of it is untouched.
-pub record Runs (input old new : List ℕ) (count : ℕ) : Type 0 where
-  pub written : take count new ≡ program default-setup input
-  pub count-is : count ≡ length (program default-setup input)
-  pub untouched : drop count new ≡ drop count old
-  pub fits : count ≤ output-size

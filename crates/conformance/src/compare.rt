@@ -13,7 +13,7 @@ use rules::tables::default_setup;
 use rules::tables::machine_rate;
 use rules::tables::transfer_rate;
 use rules::tables::transfer_time;
-ghost use Rattle.rules.specs.Words.{HasMachine};
+ghost use Rattle.rules.specs.Asked.{HasMachine};
 ghost use Rattle.reservation.specs.Registers.{Valid};
 
 pub fn same_answer(ours: Answer, theirs: RefAnswer) -> bool {

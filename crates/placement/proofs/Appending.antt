@@ -12,7 +12,8 @@ use Rattle.rules.specs.Placing.{no-row}
 use Rattle.placement.specs.declared.Attempt.{Attempt}
 use Rattle.placement.specs.declared.place.Placement.{Placement}
 use Rattle.placement.specs.Columns.{key, Widths, Mirrors}
-use Rattle.placement.specs.Placements.{most-own, AskAppend, Appended}
+use Rattle.placement.specs.Placements.{most-own}
+use Rattle.placement.specs.Appending.{AskAppend, Appended}
 use Rattle.placement.proofs.Mirror.{mirror-more, widths-kept}
 
 -- with i rows appended

@@ -10,7 +10,8 @@ use Rattle.rules.specs.declared.Holder.the-variants.{TaskOn}
 use Rattle.rules.specs.declared.Row.{Row}
 use Rattle.rules.specs.declared.Job.{Job}
 use Rattle.rules.specs.declared.Setup.{Setup}
-use Rattle.rules.specs.Words.{machine, held-by, run-time, most-messages, HasMachine}
+use Rattle.rules.specs.Words.{machine, held-by, run-time, most-messages}
+use Rattle.rules.specs.Asked.{HasMachine}
 use Rattle.rules.specs.Placing.{least-free, spans-on, task-booking, into, release as rules-release, message-trials, all-arrived, trial-rows, costs, try}
 use Rattle.rules.specs.Bounds.{largest-cost}
 use Rattle.rules.specs.Demands.{InRange}

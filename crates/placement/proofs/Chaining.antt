@@ -8,7 +8,8 @@ use lib.ListN.{length, getD, set, replicate, length-set, length-replicate, getD-
 use lib.Seq.{getD-set-same, getD-set-other}
 use borrow.Author.Tests.{eqb-true, eqb-false, leb-true, leb-false}
 use Rattle.rules.proofs.Sequences.{by-test, getD-mem}
-use Rattle.rules.specs.Words.{row-limit, link, resource, held-by, HasMachine, HasLink}
+use Rattle.rules.specs.Words.{row-limit, link, resource, held-by}
+use Rattle.rules.specs.Asked.{HasMachine, HasLink}
 use Rattle.rules.specs.Placing.{no-row}
 use Rattle.rules.specs.declared.Row.{Row}
 use Rattle.rules.specs.declared.Holder.{Holder}

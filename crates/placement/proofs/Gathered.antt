@@ -17,7 +17,8 @@ use Rattle.rules.specs.declared.Message.{Message}
 use Rattle.rules.specs.declared.Job.{Job}
 use Rattle.rules.specs.declared.Setup.{Setup}
 use Rattle.rules.specs.Sequences.{keep}
-use Rattle.rules.specs.Words.{link, held-by, messages-of, most-tasks, most-messages, HasLink}
+use Rattle.rules.specs.Words.{link, held-by, messages-of, most-tasks, most-messages}
+use Rattle.rules.specs.Asked.{HasLink}
 use Rattle.rules.specs.Placing.{least-free, spans-on, transfer, message-booking, task-row, machine-for, crosses, into, placed, message-trials, all-arrived}
 use Rattle.rules.specs.Bounds.{largest-cost}
 use Rattle.rules.specs.Demands.{InRange}

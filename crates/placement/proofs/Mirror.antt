@@ -12,7 +12,8 @@ use Rattle.rules.specs.declared.Holder.{Holder}
 use Rattle.rules.specs.declared.Holder.the-variants.{TaskOn, MessageOn}
 use Rattle.rules.specs.declared.Row.{Row}
 use Rattle.rules.specs.Sequences.{cons-if, keep}
-use Rattle.rules.specs.Words.{Resource, machine, link, same, held-by, resource, span, HasMachine, HasLink}
+use Rattle.rules.specs.Words.{Resource, machine, link, same, held-by, resource, span}
+use Rattle.rules.specs.Asked.{HasMachine, HasLink}
 use Rattle.rules.specs.Placing.{spans-on, no-row}
 use Rattle.rules.proofs.Sequences.{by-test, clash, and-true, and-both, keep-append, getD-mem}
 use Rattle.placement.specs.Columns.{key, spans-of, room, Widths, Mirrors}

@@ -34,7 +34,8 @@ use Rattle.rules.proofs.Counted.{due-length}
 use Rattle.placement.specs.Columns.{room, Widths, Mirrors}
 use Rattle.placement.specs.Asked.{Numbered, on-machine, on-link, AskFill, AskOrder, Stands}
 use Rattle.placement.specs.Trials.{reach, SenderAt, Used, AskInputs, AskChoice, Beside, IsTrial, AttemptBounds, ColumnsLeft}
-use Rattle.placement.specs.Placements.{most-own, none-placed, AskAppend, Appended, AskPlace, placing-of, PlacementIs}
+use Rattle.placement.specs.Placements.{most-own, none-placed, AskPlace, placing-of, PlacementIs}
+use Rattle.placement.specs.Appending.{AskAppend, Appended}
 use Rattle.placement.specs.declared.Attempt.{Attempt}
 use Rattle.placement.specs.declared.place.Placement.{Placement}
 use Rattle.placement.proofs.Tasks.{Released, released-none, TurnOf}

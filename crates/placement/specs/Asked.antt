@@ -1,4 +1,4 @@
--- What each function asks of its caller, and how code's values stand for those of the rules.
+-- Between functions: what each function asks of its caller, and how code's values stand for those of the rules.
 use mathlib.Core.Path.{_≡_}
 use mathlib.Core.Bool.{Bool, true, false, not}
 use mathlib.Core.List.{List}
@@ -12,7 +12,8 @@ use Rattle.rules.specs.declared.Message.{Message}
 use Rattle.rules.specs.declared.Job.{Job}
 use Rattle.rules.specs.declared.Setup.{Setup}
 use Rattle.rules.specs.Sequences.{all-of}
-use Rattle.rules.specs.Words.{HasMachine, HasLink, most-tasks, most-messages, largest-time, largest-volume, row-limit}
+use Rattle.rules.specs.Words.{most-tasks, most-messages, largest-time, largest-volume, row-limit}
+use Rattle.rules.specs.Asked.{HasMachine, HasLink}
 use Rattle.rules.specs.Placing.{placed, into, task-row, machine-for, no-row}
 use Rattle.rules.specs.Laws.{IsTask, EndsListed}
 use Rattle.rules.specs.Bounds.{Sound}

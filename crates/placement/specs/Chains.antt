@@ -1,4 +1,4 @@
--- Chains through the columns: the held entries of each resource, from one to the next and from one to the one before.
+-- Between functions: chains through the columns, the held entries of each resource, from one to the next and from one to the one before.
 use mathlib.Core.Path.{_≡_}
 use mathlib.Core.List.{List}
 use Prim.Native.Nat.{ℕ, _+_, _*_, _≤_, _<_}

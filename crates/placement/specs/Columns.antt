@@ -1,4 +1,4 @@
--- Booked spans as three columns of numbers: resource, start and finish.
+-- Between functions: booked spans as three columns of numbers, resource, start and finish.
 use mathlib.Core.Path.{_≡_}
 use mathlib.Core.List.{List, [], _++_}
 use Prim.Native.Nat.{ℕ, zero, suc, _+_, _*_, _^_, _≤_, _<_}

@@ -5,3 +5,4 @@ pub mod Chains
 pub mod Asked
 pub mod Trials
 pub mod Placements
+pub mod Appending

@@ -1,4 +1,4 @@
--- The search by passes.
+-- Between functions: the search by passes.
 use mathlib.Core.Bool.{cond}
 use mathlib.Core.List.{List, [], _∷_}
 use mathlib.Core.Path.{_≡_}

@@ -1,19 +1,16 @@
--- What placing a whole job asks and gives.
+-- What placing a whole job asks and gives. Offered to the crate `reservation`.
 use mathlib.Core.Path.{_≡_}
-use mathlib.Core.List.{List, _++_, List·Memᴰ}
-use Prim.Native.Nat.{ℕ, zero, suc, _+_, _*_, _≤_, _<_}
-use lib.ListN.{length, getD, take, replicate}
+use mathlib.Core.List.{List, List·Memᴰ}
+use Prim.Native.Nat.{ℕ, zero, suc, _+_, _≤_}
+use lib.ListN.{length, take, replicate}
 use Rattle.rules.specs.declared.Row.{Row}
 use Rattle.rules.specs.declared.Job.{Job}
 use Rattle.rules.specs.declared.Setup.{Setup}
 use Rattle.rules.specs.Words.{horizon, row-limit, most-tasks, most-messages}
 use Rattle.rules.specs.Placing.{no-row, costs, Placing, booked, late, place}
-use Rattle.rules.specs.Bounds.{Sound, RowInRange, largest-cost}
+use Rattle.rules.specs.Bounds.{Sound, RowInRange}
 use Rattle.rules.specs.Demands.{InRange}
-use Rattle.placement.specs.Columns.{room, Widths, Mirrors}
-use Rattle.placement.specs.Asked.{Numbered}
-use Rattle.placement.specs.Trials.{AttemptBounds}
-use Rattle.placement.specs.declared.Attempt.{Attempt}
+use Rattle.placement.specs.Columns.{Widths, Mirrors}
 use Rattle.placement.specs.declared.place.Placement.{Placement}
 
 -- a job's own rows: one for each task and one for each message at the most
@@ -22,29 +19,6 @@ most-own = most-tasks + most-messages
 
 unfoldable pub none-placed : ℕ → Placement
 none-placed t = record { late = t; count = 0; cost = 0; rows = replicate most-own no-row }
-
--- Appending.
-
-pub record AskAppend (own : Placement) (tried : Attempt) (resources starts finishes : List ℕ) (used : ℕ) : Type 0 where
-  pub widths : Widths resources starts finishes
-  pub own-long : length (own .rows) ≡ most-own
-  pub bounds : AttemptBounds tried
-  pub rows-fit : own .count + tried .count ≤ most-own
-  pub spans-fit : used + tried .count ≤ room
-  pub cost-at-most : own .cost ≤ most-own * ((most-messages + 1) * largest-cost)
-  pub numbered : (i : ℕ) → i < tried .count → Numbered (getD (tried .rows) i no-row .holder)
-
--- the rows of the trial follow those of the job, and their spans those used
-pub record Appended (own : Placement) (tried : Attempt) (resources starts finishes : List ℕ) (used : ℕ) (resources′ starts′ finishes′ : List ℕ) (r : Placement) : Type 0 where
-  pub not-late : r .late ≡ 0
-  pub count-is : r .count ≡ own .count + tried .count
-  pub cost-is : r .cost ≡ own .cost + tried .cost
-  pub long : length (r .rows) ≡ most-own
-  pub rows-are : take (r .count) (r .rows) ≡ take (own .count) (own .rows) ++ take (tried .count) (tried .rows)
-  pub widths : Widths resources′ starts′ finishes′
-  pub mirrors :
-      (before : List Row) → Mirrors before resources starts finishes used →
-      Mirrors (before ++ take (tried .count) (tried .rows)) resources′ starts′ finishes′ (used + tried .count)
 
 -- Placing.
 

@@ -1,4 +1,4 @@
--- What the functions of a trial ask and give.
+-- Between functions: what the functions of a trial ask and give.
 use mathlib.Core.Path.{_≡_}
 use mathlib.Core.Bool.{true, false}
 use mathlib.Core.List.{List, [], _++_, List·Memᴰ}

@@ -7,7 +7,8 @@ use rules::Row;
 ghost use mathlib.Core.Path.{_≡_};
 ghost use Prim.Native.Nat.{_<_};
 ghost use lib.ListN.{take, set};
-ghost use Rattle.rules.specs.Words.{link, held-by, resource, HasLink};
+ghost use Rattle.rules.specs.Words.{link, held-by, resource};
+ghost use Rattle.rules.specs.Asked.{HasLink};
 ghost use Rattle.placement.specs.Columns.{key, room, Mirrors, Widths, ColumnOf};
 ghost use Rattle.placement.specs.Asked.{Numbered, AskFill};
 

@@ -16,7 +16,8 @@ use rules::Setup;
 use rules::TASKS;
 ghost use mathlib.Core.Path.{_≡_};
 ghost use Rattle.placement.specs.Chains.{Chained};
-ghost use Rattle.placement.specs.Placements.{AskAppend, Appended, AskPlaceAmong, PlacedAmong, none-placed};
+ghost use Rattle.placement.specs.Placements.{AskPlaceAmong, PlacedAmong, none-placed};
+ghost use Rattle.placement.specs.Appending.{AskAppend, Appended};
 
 // A job's rows, how many and their cost; or the task that has no good trial at its turn.
 pub struct Placement {

@@ -12,7 +12,7 @@ use Rattle.rules.specs.Placing.{no-row, costs}
 use Rattle.placement.specs.declared.place.Placement.{Placement}
 use Rattle.placement.proofs.Placed.{costs-at-most}
 use Rattle.reservation.specs.declared.Register.{Register}
-use Rattle.reservation.specs.Calls.{AskAdmit, Admits}
+use Rattle.reservation.specs.Parts.{AskAdmit, Admits}
 
 -- after i rows
 pub record Filling (r : Register) (found : Placement) (rows : List Row) (i : ℕ) : Type 0 where

@@ -16,7 +16,7 @@ use Rattle.reservation.specs.declared.Register.{Register}
 use Rattle.reservation.specs.Registers.{Valid}
 use Rattle.placement.specs.Columns.{ColumnOf}
 use Rattle.placement.proofs.Made.{made-none, made-more, made-fewer}
-use Rattle.reservation.specs.Calls.{WithBoth, EndedIs, RowsEnded, Removes}
+use Rattle.reservation.specs.Parts.{WithBoth, EndedIs, RowsEnded, Removes}
 use Rattle.reservation.proofs.Values.{blank-rest}
 
 -- The rows of jobs that have ended: the first i entries are made, and the answer for the job asked last is at hand.

@@ -15,7 +15,7 @@ use Rattle.rules.specs.Placing.{no-row}
 use Rattle.rules.specs.Withdrawing.{ended}
 use Rattle.rules.proofs.Sequences.{by-test, any-append, any-mem, keep-append, keep-mem, getD-mem}
 use Rattle.placement.specs.Columns.{ColumnOf}
-use Rattle.reservation.specs.Calls.{WithBoth, EndedIs}
+use Rattle.reservation.specs.Parts.{WithBoth, EndedIs}
 
 module _ (p q : Row → Bool) (rows : List Row) where
   -- none of the first i rows that pass q passes p

@@ -34,7 +34,8 @@ use Rattle.placement.proofs.Placed.{costs-at-most, placing-late, next-some, nex
 use Rattle.reservation.specs.declared.Register.{Register}
 use Rattle.reservation.specs.Registers.{state-of, register-of, Valid}
 use Rattle.reservation.specs.declared.submission.Verdict.{Verdict}
-use Rattle.reservation.specs.Calls.{Steps, AskAdmit, Admits, refuses, Settles, Judges, RemovalIs, no-removal}
+use Rattle.reservation.specs.Calls.{Steps}
+use Rattle.reservation.specs.Parts.{AskAdmit, Admits, refuses, Settles, Judges, RemovalIs, no-removal}
 use Rattle.reservation.proofs.Values.{register-same, register-valid, blank-rest}
 use Rattle.reservation.proofs.Answers.{answer-6, answer-7, answer-8, answer-0, admitted-left}
 

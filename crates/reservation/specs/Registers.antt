@@ -1,4 +1,4 @@
--- A register as a value: what it stands for, and what every call keeps of it.
+-- A reader must believe this: a register as a value, the state of the rules that it stands for, and what every call asks of it and ensures again.
 use mathlib.Core.Path.{_≡_}
 use mathlib.Core.List.{_++_}
 use Prim.Native.Nat.{ℕ, _-_, _≤_, _<_}

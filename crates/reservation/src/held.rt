@@ -2,7 +2,7 @@
 use rules::ROWS;
 ghost use Prim.Native.Nat.{_≤_};
 ghost use Rattle.rules.specs.Words.{row-limit};
-ghost use Rattle.reservation.specs.Calls.{HeldIs};
+ghost use Rattle.reservation.specs.Parts.{HeldIs};
 
 // Some row carries the number.
 pub fn is_held(jobs: &[u64; ROWS], count: usize, number: u64) -> bool

@@ -7,7 +7,7 @@ ghost use Prim.Native.Nat.{_≤_};
 ghost use Rattle.rules.specs.Words.{row-limit};
 ghost use Rattle.reservation.specs.Registers.{Valid};
 ghost use Rattle.placement.specs.Columns.{ColumnOf};
-ghost use Rattle.reservation.specs.Calls.{EndedIs, RowsOf, RowsEnded, Removes};
+ghost use Rattle.reservation.specs.Parts.{EndedIs, RowsOf, RowsEnded, Removes};
 
 // The jobs, the starts and the finishes of the rows, gathered once for a call.
 pub struct Figures {

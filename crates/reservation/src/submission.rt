@@ -15,7 +15,8 @@ use rules::Answer;
 use rules::Job;
 ghost use mathlib.Core.Path.{_≡_};
 ghost use Rattle.reservation.specs.Registers.{Valid};
-ghost use Rattle.reservation.specs.Calls.{Submits, refuses, AskSettle, Settles, Judges, AskAdmit, Admits};
+ghost use Rattle.reservation.specs.Calls.{Submits};
+ghost use Rattle.reservation.specs.Parts.{refuses, AskSettle, Settles, Judges, AskAdmit, Admits};
 
 // The answer to a submission, and the rows that it admits: none if it refuses.
 struct Verdict {

@@ -13,7 +13,8 @@ ghost use Prim.Native.Nat.{_≤_};
 ghost use Rattle.rules.specs.Words.{row-limit};
 ghost use Rattle.rules.specs.Refusals.{withdraws, moves};
 ghost use Rattle.reservation.specs.Registers.{Valid};
-ghost use Rattle.reservation.specs.Calls.{BegunIs, RemovalIs, no-removal, Withdraws, Moves};
+ghost use Rattle.reservation.specs.Calls.{Withdraws, Moves};
+ghost use Rattle.reservation.specs.Parts.{BegunIs, RemovalIs, no-removal};
 
 // What a withdrawal or a clock move answers, the clock that it leaves, and which rows leave.
 // The register that is left is made from it at one place: a register is large.

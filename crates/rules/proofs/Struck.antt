@@ -1,12 +1,20 @@
--- The list struck of its refused calls leaves the same state and gives the same answers to the other calls.
+-- Lists of calls: each has one answer; and the list struck of its refused calls leaves the same state and gives the same answers to the other calls.
 use mathlib.Core.Path.{_≡_, refl, sym, ap, _∙_}
 use mathlib.Core.Bool.{false}
 use mathlib.Core.List.{List, [], _∷_}
+use Prim.Native.Nat.{suc}
+use lib.ListN.{length}
 use Rattle.rules.specs.declared.Setup.{Setup}
 use Rattle.rules.specs.Sequences.{keep}
 use Rattle.rules.specs.Words.{State}
 use Rattle.rules.specs.Refusals.{accepted, Call, submits, withdraws, moves, Step, settle, step, answers, after, struck}
+use Rattle.rules.specs.Laws.{Replies-counted}
 use Rattle.rules.proofs.Sequences.{by-test}
+
+pub replies-counted : Replies-counted
+unfolding answers
+replies-counted s st [] = refl
+replies-counted s st (c ∷ calls) = ap suc (replies-counted s (step s st c .left) calls)
 
 -- of any steps that leave the state as it was where they refuse
 module _ {S : Type 0} (next : S → Call → Step S) (still : (st : S) (c : Call) → accepted (next st c .answer) ≡ false → next st c .left ≡ st) where

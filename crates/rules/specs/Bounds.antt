@@ -1,4 +1,4 @@
--- Beside demand 3: the bounds that every step keeps, and that code leans on.
+-- A reader must believe this: the tables that a register may be opened with, and beside demand 3 the bounds that every step keeps. Each call asks them of its register and ensures them again.
 use mathlib.Core.Path.{_≡_}
 use mathlib.Core.List.{List, List·Memᴰ}
 use Prim.Native.Nat.{ℕ, _≤_, _<_}

@@ -1,4 +1,4 @@
--- Demands 1, 2 and 3, as claims about the rules.
+-- A reader must believe this: demands 1, 2 and 3 of document 01, as claims about the rules. Of the code they are claimed in `reservation/specs/Demands.antt`.
 use mathlib.Core.Path.{_≡_}
 use mathlib.Core.Logic.{_↔_, _≢_}
 use mathlib.Core.Bool.{Bool, true, false}

@@ -1,4 +1,4 @@
--- Further examples of document 01's rules, worked out from its text: the order of the refusals, the ends of the ranges, the ties, and each link.
+-- Further examples of document 01's rules, worked out from its text: the order of the refusals, the ends of the ranges, the ties, and each link. They hold by computation.
 use mathlib.Core.Bool.{cond}
 use mathlib.Core.List.{List, [], _∷_, _++_, map}
 use Prim.Native.Nat.{ℕ, _+_, _-_, _*_}

@@ -1,4 +1,4 @@
--- Document 01, "The journal of demand 3". It is fed the calls' arguments alone.
+-- A reader must believe this: document 01, "The journal of demand 3". It is fed the calls' arguments alone.
 use mathlib.Core.Bool.{Bool, not}
 use mathlib.Core.List.{List, [], _∷_, _++_}
 use Prim.Native.Nat.{ℕ}

@@ -1,17 +1,17 @@
--- What the laws of proofs/ show of the definitions, in the words of document 01 and of the paper.
--- Claims cite these words, so a reader must believe them too.
+-- A reader must believe this: what the laws of proofs/ show of the definitions, in the words of document 01 and of the paper. Claims cite these words.
 use mathlib.Core.Path.{_≡_}
 use mathlib.Core.Logic.{_↔_}
 use mathlib.Core.Bool.{true}
 use mathlib.Core.List.{List, [], _∷_, _++_, List·Memᴰ}
 use Prim.Native.Nat.{ℕ, _+_, _≤_, _<_}
+use lib.ListN.{length}
 use Rattle.rules.specs.declared.Job.{Job}
 use Rattle.rules.specs.declared.Message.{Message}
 use Rattle.rules.specs.declared.Row.{Row}
 use Rattle.rules.specs.declared.Setup.{Setup}
-use Rattle.rules.specs.Words.{Span, Within, Resource, machine, link, same, resource, span, messages-of, task-of, run-time}
+use Rattle.rules.specs.Words.{State, Span, Within, Resource, machine, link, same, resource, span, messages-of, task-of, run-time}
 use Rattle.rules.specs.Placing.{task-row, machine-for, crosses, arrival, message-booking, transfer, ready, release, message-trial, try, trial-rows, costs}
-use Rattle.rules.specs.Refusals.{running}
+use Rattle.rules.specs.Refusals.{running, Call, step, answers}
 
 -- Resources: a machine is itself alone, and a link is one ordered pair.
 abbrev pub Same-says : Type 0
@@ -137,3 +137,7 @@ Acyclic j = (t : ℕ) → Chain j t t → ⊥
 -- both ends of each message are tasks of the job
 abbrev pub EndsListed : Job → Type 0
 EndsListed j = (msg : Message) → List·Memᴰ msg (messages-of j) → IsTask j (msg .sender) × IsTask j (msg .receiver)
+
+-- Each call has one answer: as many replies as calls.
+abbrev pub Replies-counted : Type 0
+Replies-counted = (s : Setup) (st : State) (calls : List Call) → length (answers (step s) st calls) ≡ length calls

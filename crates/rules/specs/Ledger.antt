@@ -1,4 +1,4 @@
--- Document 01, "Ledger of examples": those with a star, as one table.
+-- Document 01, "Ledger of examples": those with a star, as one table. They hold by computation, so nobody has to believe them.
 use mathlib.Core.List.{List, [], _∷_}
 use Prim.Native.Nat.{ℕ, _-_}
 use lib.ListN.{length}

@@ -10,3 +10,4 @@ pub mod Examples
 pub mod Laws
 pub mod Bounds
 pub mod Demands
+pub mod Asked

@@ -1,4 +1,4 @@
--- Document 01, "Placing a job": DRCD of source document 004, as 01 fixes it.
+-- A reader must believe this: document 01, "Placing a job": DRCD of source document 004, as 01 fixes it.
 use mathlib.Core.Bool.{Bool, false, not, _&&_, cond}
 use mathlib.Core.List.{List, [], _∷_, _++_, map}
 use mathlib.Core.Option.{Option, none, some}

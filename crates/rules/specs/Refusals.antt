@@ -1,4 +1,4 @@
--- Document 01, "What each call refuses, in order": the tests, the answers, and one step of the register for each call.
+-- A reader must believe this: document 01, "What each call refuses, in order": the tests, the answers, and one step of the register for each call.
 use mathlib.Core.Bool.{Bool, true, false, not, _&&_, _||_, cond}
 use mathlib.Core.List.{List, [], _∷_, map}
 use mathlib.Core.Option.{Option, none, some}

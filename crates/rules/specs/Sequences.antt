@@ -1,4 +1,4 @@
--- What the definitions say of lists: some and all of them, those that pass a test, sums, counts, and the one that comes first by its figures.
+-- A reader must believe this: what the definitions say of lists: some and all of them, those that pass a test, sums, counts, and the one that comes first by its figures.
 use Prim.Native.Nat.{ℕ, zero, suc, _+_}
 use mathlib.Core.Bool.{Bool, true, false, _||_, _&&_, cond}
 use mathlib.Core.List.{List, [], _∷_}

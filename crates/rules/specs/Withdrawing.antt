@@ -1,4 +1,4 @@
--- Document 01, "Withdrawing, and moving the clock", and how an admission changes the register.
+-- A reader must believe this: document 01, "Withdrawing, and moving the clock", and how an admission changes the register.
 use mathlib.Core.Bool.{Bool, not}
 use mathlib.Core.List.{List, _++_}
 use Prim.Native.Nat.{ℕ, _+_, _-_}

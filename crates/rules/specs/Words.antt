@@ -1,4 +1,4 @@
--- Document 01, "Words and ranges".
+-- A reader must believe this: document 01, "Words and ranges": what is said of machines, links, jobs, rows and registers, and every limit.
 use mathlib.Core.Bool.{Bool, false, _&&_}
 use mathlib.Core.List.{List, [], _∷_}
 use mathlib.Core.Option.{Option, none, some}
@@ -77,15 +77,6 @@ span row = record { start = row .start; finish = row .finish }
 -- the machines that a table has room for
 abbrev pub most-machines : ℕ
 most-machines = 4
-
--- what the code's accessors ask of the machines that they are given
-pub record HasMachine (m : ℕ) : Type 0 where
-  pub first : 1 ≤ m
-  pub last : m ≤ most-machines
-
-pub record HasLink (a b : ℕ) : Type 0 where
-  pub source : HasMachine a
-  pub target : HasMachine b
 
 abbrev pub machines : Setup → List ℕ
 machines s = numbers 1 (s .table .machines)

@@ -5,7 +5,8 @@ use crate::Setup;
 use crate::Table;
 ghost use mathlib.Core.Path.{_≡_};
 ghost use lib.ListN.{getD};
-ghost use Rattle.rules.specs.Words.{default-setup, rate, link-time, link-rate, link-place, HasMachine, HasLink};
+ghost use Rattle.rules.specs.Words.{default-setup, rate, link-time, link-rate, link-place};
+ghost use Rattle.rules.specs.Asked.{HasMachine, HasLink};
 
 // The tables that document 01 gives.
 pub fn default_setup() -> Setup

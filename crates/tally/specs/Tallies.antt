@@ -1,5 +1,4 @@
--- Document 01, "The tally": the submissions that arrived, those admitted, and their ratio. A reader must believe this: the contracts of the tally are
--- these words.
+-- A reader must believe this: document 01, "The tally": the submissions that arrived, those admitted, and their ratio.
 use mathlib.Core.Path.{_≡_}
 use mathlib.Core.Bool.{Bool, _||_, cond}
 use mathlib.Core.Option.{Option, none, some}

@@ -3,7 +3,8 @@ use mathlib.Core.Path.{sym, ap, _∙_, subst}
 use Prim.Native.Nat.{ℕ}
 use borrow.Author.Needs.{needs}
 use Rattle.rules.specs.declared.Holder.the-variants.{MessageOn}
-use Rattle.rules.specs.Words.{held-by, HasLink}
+use Rattle.rules.specs.Words.{held-by}
+use Rattle.rules.specs.Asked.{HasLink}
 use Rattle.placement.specs.Columns.{key}
 use Rattle.placement.specs.Asked.{Numbered, on-link}
 use Rattle.placement.proofs.columns.holder_key.Statement.{statement}

@@ -5,7 +5,7 @@ use native.Mathlib.Omega.{arith}
 use lib.Dec.{eqb}
 use borrow.Author.Tests.{eq-eqb, ne-eqb}
 use Rattle.rules.specs.Words.{of-job}
-use Rattle.reservation.specs.Calls.{WithJobs}
+use Rattle.reservation.specs.Parts.{WithJobs}
 use Rattle.reservation.proofs.Rowwise.{NoneYet, none-at-first, none-more, none-at-end, one-passes}
 use Rattle.reservation.proofs.held.is_held.Statement.{statement}
 use Rattle.reservation.proofs.held.is_held.Tie as tie

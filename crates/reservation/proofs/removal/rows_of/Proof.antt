@@ -6,7 +6,7 @@ use native.Mathlib.Omega.{arith}
 use native.Mathlib.Numerals.{add-one}
 use lib.Dec.{eqb}
 use Rattle.rules.specs.Words.{of-job}
-use Rattle.reservation.specs.Calls.{WithJobs}
+use Rattle.reservation.specs.Parts.{WithJobs}
 use Rattle.placement.specs.Columns.{ColumnOf}
 use Rattle.placement.proofs.Made.{made-none, made-more, made-fewer}
 use Rattle.reservation.proofs.removal.rows_of.Statement.{statement}

@@ -54,11 +54,11 @@ pub fn withdraw(register: Register, number: u64) -> Register
     reply.register
 }
 
-pub fn move_clock(register: Register, tick: u64) -> Register
+pub fn advance(register: Register, tick: u64) -> Register
     requires { ⌜ Valid register ⌝ }
     ensures { λ r. ⌜ Valid r ⌝ }
 {
-    let reply = register.move_clock(tick);
+    let reply = register.advance(tick);
     print_answer(reply.answer);
     check_refused(register, reply);
     reply.register

@@ -1,12 +1,17 @@
-// The worked examples of document 01 that are calls: A to E, H to L.
+// The worked examples of document 01, and jobs at the limits.
+use crate::calls::advance;
 use crate::calls::fresh;
-use crate::calls::move_clock;
 use crate::calls::submit;
 use crate::calls::withdraw;
+use crate::jobs::alone;
 use crate::jobs::job_a;
 use crate::jobs::job_e;
 use crate::jobs::job_h;
 use crate::jobs::job_k;
+use crate::jobs::largest;
+use crate::jobs::later;
+use crate::jobs::sixteen;
+use crate::jobs::task;
 use crate::listing::heading;
 use crate::listing::print_register;
 use rules::Job;
@@ -23,15 +28,31 @@ fn shown_after_b(name: &[u8], job: Job) {
     print_register(submit(with_b, job));
 }
 
+// F and G: the least tick for so many on machine 1, beside rows 1 to 5 and 9 to 12.
+fn shown_least(name: &[u8], len: u64) {
+    heading(name);
+    let with_b = submit(fresh(), job_a(5));
+    let with_both = submit(with_b, later(9, 9, task(12, 0, [3, 0, 0, 0])));
+    print_register(submit(with_both, alone(8, task(1_000, 0, [len, 0, 0, 0]))));
+}
+
+// K beside B's row and one on machine 2.
+fn shown_k_beside() {
+    heading(b"K-beside-two-rows");
+    let with_b = submit(fresh(), job_a(5));
+    let with_both = submit(with_b, later(6, 15, task(20, 0, [0, 5, 0, 0])));
+    print_register(submit(with_both, job_k(8)));
+}
+
 // L: A is withdrawn at clock 0, and again, when it has begun, and when it has ended.
 fn shown_l() {
     heading(b"L");
     let with_a = submit(fresh(), job_a(10));
     let without_a = withdraw(with_a, 7);
     let again = submit(without_a, job_a(10));
-    let begun = withdraw(move_clock(again, 1), 7);
+    let begun = withdraw(advance(again, 1), 7);
     print_register(begun);
-    let ended = withdraw(move_clock(begun, 6), 7);
+    let ended = withdraw(advance(begun, 6), 7);
     print_register(ended);
 }
 
@@ -41,9 +62,14 @@ pub fn worked_examples() {
     shown(b"C", job_a(2));
     shown(b"D", job_a(1));
     shown_after_b(b"E", job_e());
+    shown_least(b"F", 4);
+    shown_least(b"G", 5);
     shown(b"H", job_h(16, 3));
     shown(b"I", job_h(15, 3));
     shown(b"J", job_h(16, 0));
-    shown(b"K", job_k());
+    shown(b"K", job_k(7));
+    shown_k_beside();
     shown_l();
+    shown(b"sixteen", sixteen());
+    shown(b"largest", largest(1_000_000));
 }

@@ -1,5 +1,5 @@
 // A register that is filled, freed in part and filled again.
-use crate::calls::move_clock;
+use crate::calls::advance;
 use crate::calls::submit;
 use crate::calls::withdraw;
 use crate::jobs::alone;
@@ -66,11 +66,11 @@ pub fn refilled(register: Register) -> Register
     left = submit(left, three_rows(1_000));
     print_state(left);
     left = submit(left, one_row(257));
-    left = move_clock(left, 100);
+    left = advance(left, 100);
     print_state(left);
     left = fill(left, 1_001, 2_000);
     print_state(left);
-    left = move_clock(left, 200);
+    left = advance(left, 200);
     print_state(left);
     left = withdraw(left, 1_000);
     left = fill(left, 2_001, 3_000);
@@ -83,13 +83,13 @@ pub fn emptied(register: Register) -> Register
     ensures { λ r. ⌜ Valid r ⌝ }
 {
     heading(b"emptied");
-    let mut left = move_clock(register, 999_999_999);
+    let mut left = advance(register, 999_999_999);
     print_state(left);
     left = submit(left, alone(1, task(1_000_000_000, 0, [1, 0, 0, 0])));
     left = submit(left, alone(2, task(1_000_000_000, 0, [1, 0, 0, 0])));
-    left = move_clock(left, 1_000_000_000);
+    left = advance(left, 1_000_000_000);
     left = submit(left, alone(1, task(1_000_000_000, 0, [1, 0, 0, 0])));
-    left = move_clock(left, 1_000_000_000);
-    left = move_clock(left, 999_999_999);
+    left = advance(left, 1_000_000_000);
+    left = advance(left, 999_999_999);
     left
 }

@@ -1,16 +1,17 @@
 // The jobs that are submitted. Entries past a job's counts are blank, unless said.
+use rules::DEFAULT_MACHINES;
 use rules::Job;
-use rules::MACHINES;
 use rules::MESSAGES;
 use rules::Message;
 use rules::TASKS;
 use rules::Task;
 
-pub fn task(deadline: u64, dispatch: u64, runs: [u64; MACHINES]) -> Task {
+// A task by its run times on the machines of the default table.
+pub fn task(deadline: u64, dispatch: u64, runs: [u64; DEFAULT_MACHINES]) -> Task {
     Task {
         deadline: deadline,
         dispatch: dispatch,
-        runs: runs,
+        runs: [runs[0], runs[1], runs[2], runs[3], 0, 0, 0, 0],
     }
 }
 
@@ -28,7 +29,7 @@ pub fn job(number: u64) -> Job {
         number: number,
         scheduling: 0,
         taskcount: 0,
-        tasks: [task(0, 0, [0; MACHINES]); TASKS],
+        tasks: [task(0, 0, [0; DEFAULT_MACHINES]); TASKS],
         messagecount: 0,
         messages: [message(0, 0, 0); MESSAGES],
     }
@@ -60,6 +61,13 @@ pub fn alone(number: u64, its: Task) -> Job {
     with_task(job(number), its)
 }
 
+// The same after so much scheduling time.
+pub fn later(number: u64, scheduling: u64, its: Task) -> Job {
+    let mut late = alone(number, its);
+    late.scheduling = scheduling;
+    late
+}
+
 // A to D, by their deadline.
 pub fn job_a(deadline: u64) -> Job {
     alone(7, task(deadline, 1, [4, 5, 0, 2]))
@@ -76,8 +84,9 @@ pub fn job_h(deadline: u64, volume: u64) -> Job {
     with_message(both, message(1, 2, volume))
 }
 
-pub fn job_k() -> Job {
-    let first = alone(7, task(10, 0, [4, 0, 0, 0]));
+// K, by its number.
+pub fn job_k(number: u64) -> Job {
+    let first = alone(number, task(10, 0, [4, 0, 0, 0]));
     let second = with_task(first, task(20, 0, [2, 0, 0, 0]));
     let third = with_task(second, task(30, 0, [0, 5, 0, 0]));
     let one = with_message(third, message(1, 3, 2));
@@ -116,6 +125,31 @@ fn across(volume: u64) -> [Message; MESSAGES] {
         i += 1;
     }
     messages
+}
+
+// One machine alone for each task, each in turn, and the later the task the earlier its deadline.
+fn in_turn() -> [Task; TASKS] {
+    let mut tasks = [easy(); TASKS];
+    let mut i: usize = 0;
+    while i < TASKS {
+        let mut runs = [0; DEFAULT_MACHINES];
+        runs[i % DEFAULT_MACHINES] = 3;
+        tasks[i] = task(1_000 - i as u64, 1, runs);
+        i += 1;
+    }
+    tasks
+}
+
+// All the tasks and messages that a job has room for, over every machine and link.
+pub fn sixteen() -> Job {
+    Job {
+        number: 9,
+        scheduling: 2,
+        taskcount: 16,
+        tasks: in_turn(),
+        messagecount: 32,
+        messages: across(5),
+    }
 }
 
 // All the entries that a job has room for, with these counts.

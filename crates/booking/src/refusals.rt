@@ -1,7 +1,7 @@
 // Every refusal, and the calls at the limits beside it, on one register.
+use crate::calls::advance;
 use crate::calls::apply;
 use crate::calls::look;
-use crate::calls::move_clock;
 use crate::calls::submit;
 use crate::calls::withdraw;
 use crate::jobs::alone;
@@ -195,7 +195,7 @@ pub fn of_withdrawals(register: Register) -> Register
     left = withdraw(left, 1);
     left = submit(left, alone(12, easy()));
     print_state(left);
-    left = move_clock(left, 4);
+    left = advance(left, 4);
     left = withdraw(left, 10);
     left = withdraw(left, 8);
     left = withdraw(left, 12);
@@ -228,18 +228,18 @@ pub fn of_moves(register: Register) -> Register
 {
     heading(b"moves");
     let none = job(0);
-    let mut left = apply(register, Kind::Clock(3), none);
-    left = apply(left, Kind::Clock(4), none);
-    left = apply(left, Kind::Clock(1_000_000_001), none);
-    left = apply(left, Kind::Clock(GREATEST), none);
+    let mut left = apply(register, Kind::Advance(3), none);
+    left = apply(left, Kind::Advance(4), none);
+    left = apply(left, Kind::Advance(1_000_000_001), none);
+    left = apply(left, Kind::Advance(GREATEST), none);
     left = apply(left, Kind::Submit, job_a(10));
     left = apply(left, Kind::Withdraw(7), none);
-    left = apply(left, Kind::Clock(15), none);
+    left = apply(left, Kind::Advance(15), none);
     print_state(left);
-    left = apply(left, Kind::Clock(21), none);
+    left = apply(left, Kind::Advance(21), none);
     print_state(left);
     left = apply(left, Kind::Submit, job_a(40));
-    left = apply(left, Kind::Clock(50), none);
+    left = apply(left, Kind::Advance(50), none);
     left = apply(left, Kind::Withdraw(7), none);
     left
 }

@@ -1,10 +1,11 @@
 // Runs the program `register` on every case of a container, and compares what it would write with what is expected. A case is a line
 // `script=N` and N bytes, a line `output=M` and M bytes.
 use check::same;
-use jobtext::line::Line;
-use jobtext::line::read_line;
 use libc::STDIN_FILENO;
 use libc::STDOUT_FILENO;
+use lines::line::DIGITS;
+use lines::line::begins_with;
+use lines::line::number;
 use script::OUTPUT;
 use script::run;
 ghost use Prim.Native.Nat.{_+_, _≤_};
@@ -31,14 +32,18 @@ fn read_part(text: &[u8], at: usize, key: &[u8]) -> Part
     requires { ⌜ at ≤ length (now text) ⌝ }
     ensures { λ r. ⌜ PartIs (length (now (text .entry))) at r ⌝ }
 {
-    let line = read_line(text, at, key);
-    let Line::Figure(count, from) = line else {
-        return Part::Ill;
-    };
-    if text.len() < from {
+    let rest = &text[at..];
+    if !begins_with(rest, key) {
         return Part::Ill;
     }
+    let digits = number(&rest[key.len()..], DIGITS);
+    let width = digits.count;
+    if width == 0 {
+        return Part::Ill;
+    }
+    let from = at + key.len() + width + 1;
     let left = (text.len() - from) as u64;
+    let count = digits.value;
     if left < count {
         return Part::Ill;
     }

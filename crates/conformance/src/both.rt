@@ -136,13 +136,13 @@ pub fn withdraw(both: Both, number: u64) -> Both
     settled(both, reply, reference::withdraw(book, number))
 }
 
-pub fn move_clock(both: Both, tick: u64) -> Both
+pub fn advance(both: Both, tick: u64) -> Both
     requires { ⌜ Valid (both .register) ⌝ }
     ensures { λ r. ⌜ Valid (r .register) ⌝ }
 {
     let register = both.register;
     let book = both.book;
-    let reply = register.move_clock(tick);
+    let reply = register.advance(tick);
     settled(both, reply, reference::move_clock(book, tick))
 }
 

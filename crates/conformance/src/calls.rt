@@ -1,7 +1,7 @@
 // Made-up calls: which one comes next, and what it asks for.
 use crate::both::Both;
+use crate::both::advance;
 use crate::both::look;
-use crate::both::move_clock;
 use crate::both::submit;
 use crate::both::withdraw;
 use crate::draws::GREATEST;
@@ -42,7 +42,7 @@ fn other_call(both: Both, shape: Shape, seed: u64) -> Both
         return withdraw(both, number_of(book, shape, seed));
     }
     if kind < plus(shape.withdrawals, shape.moves) {
-        return move_clock(both, tick_of(book, shape, seed));
+        return advance(both, tick_of(book, shape, seed));
     }
     let view = view_of(book, shape, seed);
     look(both, view.machine, view.tick)

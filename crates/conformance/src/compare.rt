@@ -13,7 +13,7 @@ use rules::tables::default_setup;
 use rules::tables::machine_rate;
 use rules::tables::transfer_rate;
 use rules::tables::transfer_time;
-ghost use Rattle.rules.specs.Asked.{HasMachine};
+ghost use Prim.Native.Nat.{_≤_};
 ghost use Rattle.reservation.specs.Registers.{Valid};
 
 pub fn same_answer(ours: Answer, theirs: RefAnswer) -> bool {
@@ -167,7 +167,7 @@ pub fn links_apart(theirs: Book) -> u64 {
 }
 
 fn links_from_apart(theirs: Book, source: u64) -> u64
-    requires { ⌜ HasMachine source ⌝ }
+    requires { ⌜ (1 ≤ source) × (source ≤ 4) ⌝ }
 {
     let setup = default_setup();
     let mut apart: u64 = 0;

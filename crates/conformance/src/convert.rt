@@ -39,7 +39,7 @@ fn converted_task(task: Task) -> RefTask {
     RefTask {
         deadline: task.deadline,
         dispatch: task.dispatch,
-        runs: runs,
+        runs: [runs[0], runs[1], runs[2], runs[3]],
     }
 }
 

@@ -1,6 +1,6 @@
 // The examples that document 01 leaves to a program.
 use crate::both::Both;
-use crate::both::move_clock;
+use crate::both::advance;
 use crate::both::opened;
 use crate::both::parts_of;
 use crate::both::ratios_apart;
@@ -76,7 +76,7 @@ pub fn largest_total(counts: Counts) -> Counts {
     print_total(full);
     let less = withdraw(full, 200);
     print_total(less);
-    let later = move_clock(less, 100_000_000);
+    let later = advance(less, 100_000_000);
     print_total(later);
     later.counts
 }

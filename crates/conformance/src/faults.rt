@@ -3,6 +3,7 @@ use crate::draws::GREATEST;
 use crate::draws::draw;
 use crate::draws::plus;
 use crate::draws::rarely;
+use rules::DEFAULT_MACHINES;
 use rules::Job;
 use rules::MACHINES;
 use rules::MESSAGES;
@@ -101,7 +102,7 @@ fn wrong_figure(task: Task, seed: u64, key: u64) -> Task {
 fn wrong_runs(task: Task, seed: u64, key: u64) -> [u64; MACHINES] {
     let mut runs = task.runs;
     let at = draw(seed, plus(key, 9), 4) as usize;
-    if at < MACHINES {
+    if at < DEFAULT_MACHINES {
         runs[at] = too_large(seed, key, 1_000_000);
     }
     runs
@@ -212,7 +213,7 @@ fn limit_task(task: Task, seed: u64) -> Task {
         1 => its.deadline = 1_000_000_000,
         2 => its.dispatch = 1_000_000,
         _ => {
-            if at < MACHINES {
+            if at < DEFAULT_MACHINES {
                 its.runs[at] = 1_000_000;
             }
         }

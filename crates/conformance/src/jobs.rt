@@ -8,6 +8,7 @@ use crate::faults::with_faults;
 use crate::shapes::Graph;
 use crate::shapes::Shape;
 use reservation::Register;
+use rules::DEFAULT_MACHINES;
 use rules::Job;
 use rules::MACHINES;
 use rules::MESSAGES;
@@ -127,7 +128,7 @@ fn made_up_task(shape: Shape, earliest: u64, seed: u64, key: u64) -> Task {
     Task {
         deadline: before_horizon(deadline),
         dispatch: draw(seed, plus(key, 1), shape.dispatch),
-        runs: runs_of(shape, seed, key),
+        runs: widened(runs_of(shape, seed, key), seed),
     }
 }
 
@@ -141,14 +142,29 @@ fn before_horizon(deadline: u64) -> u64 {
     deadline
 }
 
+// Run times on the machines that there are, and past them what is no part of the job.
+fn widened(runs: [u64; DEFAULT_MACHINES], seed: u64) -> [u64; MACHINES] {
+    let figure = unused_figure(seed);
+    [
+        runs[0],
+        runs[1],
+        runs[2],
+        runs[3],
+        figure,
+        figure,
+        figure,
+        figure,
+    ]
+}
+
 // Some machine can run the task, but for one task in so many.
-fn runs_of(shape: Shape, seed: u64, key: u64) -> [u64; MACHINES] {
+fn runs_of(shape: Shape, seed: u64, key: u64) -> [u64; DEFAULT_MACHINES] {
     if shape.tied {
         return tied_runs(seed, key);
     }
     let sure = draw(seed, plus(key, 2), 4);
     if rarely(seed, plus(key, 3), 60) {
-        return [0; MACHINES];
+        return [0; DEFAULT_MACHINES];
     }
     [
         run_of(shape, seed, plus(key, 4), sure == 0),
@@ -168,7 +184,7 @@ fn run_of(shape: Shape, seed: u64, key: u64, sure: bool) -> u64 {
 }
 
 // Run times that cost the same on every machine that can run the task.
-fn tied_runs(seed: u64, key: u64) -> [u64; MACHINES] {
+fn tied_runs(seed: u64, key: u64) -> [u64; DEFAULT_MACHINES] {
     let unit = 1 + draw(seed, plus(key, 2), 3);
     let which = draw(seed, plus(key, 3), 5);
     match which {
@@ -264,7 +280,7 @@ pub fn with_message(job: Job, message: Message) -> Job {
 }
 
 // One task, which takes one row.
-pub fn alone(number: u64, deadline: u64, runs: [u64; MACHINES]) -> Job {
+pub fn alone(number: u64, deadline: u64, runs: [u64; DEFAULT_MACHINES]) -> Job {
     let none = Task {
         deadline: 0,
         dispatch: 0,
@@ -274,7 +290,7 @@ pub fn alone(number: u64, deadline: u64, runs: [u64; MACHINES]) -> Job {
     tasks[0] = Task {
         deadline: deadline,
         dispatch: 0,
-        runs: runs,
+        runs: widened(runs, 0),
     };
     Job {
         number: number,

@@ -1,6 +1,6 @@
 // The lists of calls, each on a fresh register and a fresh book.
 use crate::both::Both;
-use crate::both::move_clock;
+use crate::both::advance;
 use crate::both::opened;
 use crate::both::ratios_apart;
 use crate::calls::next_call;
@@ -49,9 +49,9 @@ pub fn one_list(
     tick: u64,
     seed: u64,
 ) -> Counts {
-    let begun = move_clock(opened(book, counts, seed), tick);
+    let begun = advance(opened(book, counts, seed), tick);
     let left = called(begun, shape, calls);
-    let emptied = move_clock(left, Register::HORIZON);
+    let emptied = advance(left, Register::HORIZON);
     let tally = left.tally;
     let all = emptied.counts;
     differing(all, ratios_apart(tally, left.arrived, left.admitted))

@@ -15,7 +15,7 @@ use Rattle.rules.specs.declared.Task.{Task}
 use Rattle.rules.specs.declared.Setup.{Setup}
 use Rattle.rules.specs.Sequences.{any-of, numbers, precedes}
 use Rattle.rules.specs.Words.{largest-time, horizon, most-tasks, most-messages, messages-of, no-task}
-use Rattle.rules.specs.Refusals.{outside, miscounted, task-out-of-range, out-of-range, message-out-of-range, listing, ascending, bad-messages}
+use Rattle.rules.specs.Refusals.{outside, miscounted, task-out-of-range, out-of-range, message-out-of-range, message-order, ascending, bad-messages}
 use Rattle.rules.proofs.Sequences.{by-test, clash, or-left, or-right, or-false, and-true, and-both, any-append, any-mem, numbers-more, numbers-mem, getD-mem}
 use Rattle.rules.proofs.Order.{in-between}
 use Rattle.rules.proofs.Choice.{lower-precedes}
@@ -137,29 +137,29 @@ module _ {s : Setup} {j : Job} (ask : AskFigures s j) where
 
 -- one message more at the end: the last of `l`, or `d` if there is none, stands in `d ∷ l` at the length of `l`
 ascending-more :
-    (d : Message) (l : List Message) (y : Message) → ascending (map listing l) ≡ true →
-    precedes (listing (getD (d ∷ l) (length l) d)) (listing y) ≡ true → ascending (map listing (l ++ (y ∷ []))) ≡ true
+    (d : Message) (l : List Message) (y : Message) → ascending (map message-order l) ≡ true →
+    precedes (message-order (getD (d ∷ l) (length l) d)) (message-order y) ≡ true → ascending (map message-order (l ++ (y ∷ []))) ≡ true
 unfolding ascending
 ascending-more d [] y e h = refl
-ascending-more d (x ∷ []) y e h = and-both (precedes (listing x) (listing y)) true h refl
+ascending-more d (x ∷ []) y e h = and-both (precedes (message-order x) (message-order y)) true h refl
 ascending-more d (x ∷ (z ∷ l)) y e h =
-    let both = and-true (precedes (listing x) (listing z)) (ascending (map listing (z ∷ l))) e in
+    let both = and-true (precedes (message-order x) (message-order z)) (ascending (map message-order (z ∷ l))) e in
     and-both
-    (precedes (listing x) (listing z))
-    (ascending (map listing (z ∷ (l ++ (y ∷ [])))))
+    (precedes (message-order x) (message-order z))
+    (ascending (map message-order (z ∷ (l ++ (y ∷ [])))))
     (both .0)
     (ascending-more d (z ∷ l) y (both .1) h)
 
 -- each precedes the next
 ascending-next :
-    (d : Message) (l : List Message) (n : ℕ) → ascending (map listing l) ≡ true → suc n < length l →
-    precedes (listing (getD l n d)) (listing (getD l (suc n) d)) ≡ true
+    (d : Message) (l : List Message) (n : ℕ) → ascending (map message-order l) ≡ true → suc n < length l →
+    precedes (message-order (getD l n d)) (message-order (getD l (suc n) d)) ≡ true
 unfolding ascending
 ascending-next d [] n e h = absurd (omega arith)
 ascending-next d (x ∷ []) n e h = absurd (omega arith)
-ascending-next d (x ∷ (y ∷ l)) zero e h = and-true (precedes (listing x) (listing y)) (ascending (map listing (y ∷ l))) e .0
+ascending-next d (x ∷ (y ∷ l)) zero e h = and-true (precedes (message-order x) (message-order y)) (ascending (map message-order (y ∷ l))) e .0
 ascending-next d (x ∷ (y ∷ l)) (suc n) e h =
-    ascending-next d (y ∷ l) n (and-true (precedes (listing x) (listing y)) (ascending (map listing (y ∷ l))) e .1) (omega arith)
+    ascending-next d (y ∷ l) n (and-true (precedes (message-order x) (message-order y)) (ascending (map message-order (y ∷ l))) e .1) (omega arith)
 
 -- the message that the one at i has to come after
 abbrev ahead-of : Job → ℕ → Message
@@ -170,7 +170,7 @@ pub record Ascends (j : Job) (last : Message) (i : ℕ) : Type 0 where
   pub within : i ≤ j .messagecount
   pub long : length (j .messages) ≡ most-messages
   pub in-range : any-of (message-out-of-range j) (take i (j .messages)) ≡ false
-  pub ascends : ascending (map listing (take i (j .messages))) ≡ true
+  pub ascends : ascending (map message-order (take i (j .messages))) ≡ true
   pub is-last : last ≡ ahead-of j i
 
 pub ascends-none : (j : Job) → length (j .messages) ≡ most-messages → Ascends j no-message 0
@@ -185,8 +185,8 @@ receiver-in-range j msg e =
 
 -- in a job whose messages ascend, each comes after the one ahead of it
 comes-after :
-    (j : Job) (i : ℕ) → i < j .messagecount → j .messagecount ≤ length (j .messages) → ascending (map listing (messages-of j)) ≡ true →
-    message-out-of-range j (message-at j i) ≡ false → precedes (listing (ahead-of j i)) (listing (message-at j i)) ≡ true
+    (j : Job) (i : ℕ) → i < j .messagecount → j .messagecount ≤ length (j .messages) → ascending (map message-order (messages-of j)) ≡ true →
+    message-out-of-range j (message-at j i) ≡ false → precedes (message-order (ahead-of j i)) (message-order (message-at j i)) ≡ true
 comes-after j zero more long asc good = lower-precedes 0 (message-at j zero .receiver) _ _ (receiver-in-range j (message-at j zero) good)
 comes-after j (suc i) more long asc good =
     rw (
@@ -212,19 +212,19 @@ module _ {j : Job} {last : Message} {i : ℕ} (counts : miscounted j ≡ false) 
 
     pub message-bad : message-out-of-range j (message-at j i) ≡ true → true ≡ bad-messages j
     unfolding bad-messages
-    message-bad e = sym (or-left _ (not (ascending (map listing (messages-of j)))) (any-mem (message-out-of-range j) listed e))
+    message-bad e = sym (or-left _ (not (ascending (map message-order (messages-of j)))) (any-mem (message-out-of-range j) listed e))
 
     module _ (good : message-out-of-range j (message-at j i) ≡ false) where
-      pub order-bad : precedes (listing last) (listing (message-at j i)) ≡ false → true ≡ bad-messages j
+      pub order-bad : precedes (message-order last) (message-order (message-at j i)) ≡ false → true ≡ bad-messages j
       unfolding bad-messages
       order-bad e =
           let most = counts-in-range counts in
           by-test
-          (ascending (map listing (messages-of j)))
+          (ascending (map message-order (messages-of j)))
           (λ asc. clash (rw (sofar .is-last) (comes-after j i more (omega arith) asc good)) e)
           (λ not-asc. sym (or-right (any-of (message-out-of-range j) (messages-of j)) _ (ap not not-asc)))
 
-      pub ascends-more : precedes (listing last) (listing (message-at j i)) ≡ true → Ascends j (message-at j i) (i + 1)
+      pub ascends-more : precedes (message-order last) (message-order (message-at j i)) ≡ true → Ascends j (message-at j i) (i + 1)
       ascends-more e =
           let most = counts-in-range counts in
           let one-more : take (i + 1) (j .messages) ≡ take i (j .messages) ++ (message-at j i ∷ [])

@@ -12,7 +12,7 @@ ghost use Prim.Native.Nat.{_≤_};
 ghost use Rattle.rules.specs.Words.{largest-number, most-machines};
 ghost use Rattle.rules.specs.Sequences.{precedes};
 ghost use Rattle.rules.specs.Refusals.{outside, miscounted as rules-miscounted, task-out-of-range, out-of-range as rules-out-of-range};
-ghost use Rattle.rules.specs.Refusals.{message-out-of-range as rules-message-out-of-range, listing, bad-messages as rules-bad-messages};
+ghost use Rattle.rules.specs.Refusals.{message-out-of-range as rules-message-out-of-range, message-order, bad-messages as rules-bad-messages};
 ghost use Rattle.feasibility.specs.Tests.{AskFigures, TestOf};
 
 // The largest scheduling, dispatch or run time.
@@ -108,7 +108,7 @@ fn message_outside(job: Job, msg: Message) -> bool
 
 // One message stands before another: by receiver, then by sender.
 fn stands_before(a: Message, b: Message) -> bool
-    ensures { λ r. ⌜ r ≡ precedes (listing a) (listing b) ⌝ }
+    ensures { λ r. ⌜ r ≡ precedes (message-order a) (message-order b) ⌝ }
 {
     if a.receiver < b.receiver {
         return true;

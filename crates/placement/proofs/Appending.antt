@@ -9,9 +9,10 @@ use lib.Seq.{take-suc, take-suc-set}
 use Rattle.rules.specs.declared.Row.{Row}
 use Rattle.rules.specs.Words.{resource}
 use Rattle.rules.specs.Placing.{no-row}
+use Rattle.rules.specs.Codes.{resource-number}
 use Rattle.placement.specs.declared.Attempt.{Attempt}
 use Rattle.placement.specs.declared.place.Placement.{Placement}
-use Rattle.placement.specs.Columns.{key, Widths, Mirrors}
+use Rattle.placement.specs.Columns.{Widths, Mirrors}
 use Rattle.placement.specs.Placements.{most-own}
 use Rattle.placement.specs.Appending.{AskAppend, Appended}
 use Rattle.placement.proofs.Mirror.{mirror-more, widths-kept}
@@ -66,7 +67,7 @@ module _
             starts₀
             finishes₀
             used
-            (set resources (used + i) (key (resource row)))
+            (set resources (used + i) (resource-number (resource row)))
             (set starts (used + i) (row .start))
             (set finishes (used + i) (row .finish))
             (set rows (own .count + i) row)

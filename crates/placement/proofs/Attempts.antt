@@ -4,7 +4,7 @@ use mathlib.Core.List.{List, [], _∷_, _++_}
 use Prim.Native.Nat.{ℕ, suc, _+_, _*_, _^_, _≤_, _<_}
 use native.Mathlib.Omega.{arith}
 use native.Mathlib.Numerals.{add-one}
-use lib.ListN.{length, take, set, length-set}
+use lib.ListN.{take, set, length-set}
 use lib.Seq.{take-suc-set}
 use Rattle.rules.specs.declared.Holder.the-variants.{TaskOn}
 use Rattle.rules.specs.declared.Row.{Row}
@@ -16,8 +16,12 @@ use Rattle.rules.specs.Placing.{least-free, spans-on, task-booking, into, relea
 use Rattle.rules.specs.Bounds.{largest-cost}
 use Rattle.rules.specs.Demands.{InRange}
 use Rattle.rules.proofs.Sequences.{sum-append}
-use Rattle.placement.specs.Columns.{key, tick-bound, spans-of, Searchable, Lasting}
-use Rattle.placement.specs.Asked.{AskTaskRow, on-machine}
+use Rattle.rules.specs.Words.{holds}
+use Rattle.rules.specs.Placing.{on-rows}
+use Rattle.rules.proofs.Resources.{holds-append}
+use Rattle.placement.specs.Columns.{tick-bound, spans-of, Searchable, Lasting}
+use Rattle.placement.specs.Asked.{AskTaskRow}
+use Rattle.rules.specs.Codes.{on-machine}
 use Rattle.placement.specs.Trials.{AskAttempt, InputsAre, AttemptBounds, AttemptIs, IsTrial, Beside}
 use Rattle.placement.specs.declared.Attempt.{Attempt}
 use Rattle.placement.proofs.Mirror.{mirror-kept, spans-mirror}
@@ -103,16 +107,16 @@ module _
             }
 
         attempt-trial :
-            (held new : List Row) (clock : ℕ) → InRange s j → Beside j machines done t resources starts finishes used held new →
-            release ≡ rules-release clock j new t → IsTrial (try s clock held j new t m) it
-        unfolding try held-by key
-        attempt-trial held new clock range beside is-release =
+            (held new : List Row) (base : ℕ) → InRange s j → Beside j machines done t resources starts finishes used held new →
+            release ≡ rules-release (on-rows base held) j new t → IsTrial (try s (on-rows base held) j new t m) it
+        unfolding try held-by
+        attempt-trial held new base range beside is-release =
             let tried = found .are held new range beside in
-            let ins : List Row = message-trials s held j new m [] (into j t) in
-            let from : ℕ = all-arrived (new ++ ins) m (rules-release clock j new t) (into j t) in
+            let ins : List Row = message-trials s (holds held) j new m [] (into j t) in
+            let from : ℕ = all-arrived (new ++ ins) m (rules-release (on-rows base held) j new t) (into j t) in
             let arrived-is : arrived ≡ from
             = tried .arrived-is ∙ ap₂ (λ rs r. all-arrived (new ++ rs) m r (into j t)) (tried .rows-are) is-release in
-            let spans-are : spans-of m resources′ starts′ finishes′ used ≡ spans-on (machine m) (held ++ new)
+            let spans-are : spans-of m resources′ starts′ finishes′ used ≡ spans-on (machine m) (holds held ++ holds new)
             = spans-mirror
             (held ++ new)
             resources′
@@ -122,13 +126,14 @@ module _
             (mirror-kept (beside .mirrors) (found .same .resources-same) (found .same .starts-same) (found .same .finishes-same))
             (beside .numbered)
             (TaskOn m 0)
-            (on-machine attempt-there) in
-            let start-is : start ≡ least-free from (run-time j t m) (spans-on (machine m) (held ++ new))
+            (on-machine attempt-there)
+            ∙ ap (spans-on (machine m)) (holds-append held new) in
+            let start-is : start ≡ least-free from (run-time j t m) (spans-on (machine m) (holds held ++ holds new))
             = sought ∙ ap₂ (λ a l. least-free a (run-time j t m) l) arrived-is spans-are in
-            let own-is : own ≡ try s clock held j new t m .own = made ∙ ap (task-booking s j t m) start-is in
+            let own-is : own ≡ try s (on-rows base held) j new t m .own = made ∙ ap (task-booking s j t m) start-is in
             let few = own-figures .0 in
             let long = found .long in
-            let rows-are : take (suc count) (set rows count own) ≡ trial-rows (try s clock held j new t m)
+            let rows-are : take (suc count) (set rows count own) ≡ trial-rows (try s (on-rows base held) j new t m)
             = take-suc-set rows count own (omega arith) ∙ ap₂ (λ a b. a ++ (b ∷ [])) (tried .rows-are) own-is in
             let sum = sum-append (λ row. row .cost) (take count rows) (own ∷ []) in
             let was = tried .cost-is in

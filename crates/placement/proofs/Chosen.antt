@@ -17,6 +17,7 @@ use Rattle.rules.specs.Placing.{Trial, trial-rows, costs, machine-of, try, good
 use Rattle.rules.specs.Bounds.{Between}
 use Rattle.rules.specs.Demands.{InRange}
 use Rattle.rules.proofs.Sequences.{by-test, clash, keep-append}
+use Rattle.rules.specs.Placing.{on-rows, Ground}
 use Rattle.placement.specs.declared.Attempt.{Attempt}
 use Rattle.placement.specs.declared.choice.Kept.{Kept}
 use Rattle.placement.specs.Columns.{Widths}
@@ -26,7 +27,8 @@ use Rattle.placement.proofs.Foremost.{later, foremost-more, keep-passin
 
 -- Columns as they were, up to those used.
 
-left-none : {resources starts finishes : List ℕ} {used : ℕ} → Widths resources starts finishes → ColumnsLeft resources starts finishes used resources starts finishes
+left-none : {resources starts finishes : List ℕ} {used : ℕ} → Widths resources starts finishes →
+    ColumnsLeft resources starts finishes used resources starts finishes
 left-none w = record { widths = w; same = record { resources-same = λ i h. refl; starts-same = λ i h. refl; finishes-same = λ i h. refl } }
 
 module _
@@ -106,12 +108,12 @@ before-precedes cost start m best-cost best-start k h =
 
 -- The good trials of the first n machines.
 
-module _ (s : Setup) (clock : ℕ) (held : List Row) (j : Job) (new : List Row) (t : ℕ) where
+module _ (s : Setup) (g : Ground) (j : Job) (new : List Row) (t : ℕ) where
   abbrev pub tried : ℕ → Trial
-  tried = try s clock held j new t
+  tried = try s g j new t
 
   abbrev pub is-good : Trial → Bool
-  is-good = good s clock held j new t
+  is-good = good s g j new t
 
   abbrev pub able : ℕ → Bool
   able m = ltb 0 (run-time j t m)
@@ -136,44 +138,44 @@ module _ (s : Setup) (clock : ℕ) (held : List Row) (j : Job) (new : List Row) 
   figures-are m its = rw (its .cost-is, its .start-is, its-machine m) refl
 
 -- what is kept is the foremost of them
-pub record IsBest (s : Setup) (clock : ℕ) (held : List Row) (j : Job) (new : List Row) (t n : ℕ) (kept : Kept) : Type 0 where
+pub record IsBest (s : Setup) (g : Ground) (j : Job) (new : List Row) (t n : ℕ) (kept : Kept) : Type 0 where
   pub among : kept .found ≡ true → kept .machine ≤ n
-  pub is : IsKeptOf (foremost figures (trials s clock held j new t n)) (try s clock held j new t) kept
+  pub is : IsKeptOf (foremost figures (trials s g j new t n)) (try s g j new t) kept
 
 best-none :
-    (s : Setup) (clock : ℕ) (held : List Row) (j : Job) (new : List Row) (t : ℕ) (kept : Kept) → kept .found ≡ false →
-    IsBest s clock held j new t 0 kept
+    (s : Setup) (g : Ground) (j : Job) (new : List Row) (t : ℕ) (kept : Kept) → kept .found ≡ false →
+    IsBest s g j new t 0 kept
 unfolding foremost
-best-none s clock held j new t kept e =
+best-none s g j new t kept e =
     record { among = λ h. clash h e; is = record { none-found = λ h. refl; one-found = λ h. clash h e } }
 
-module _ {s : Setup} {clock : ℕ} {held : List Row} {j : Job} {new : List Row} {t n : ℕ} {kept : Kept} (best : IsBest s clock held j new t n kept) where
+module _ {s : Setup} {g : Ground} {j : Job} {new : List Row} {t n : ℕ} {kept : Kept} (best : IsBest s g j new t n kept) where
   abbrev following : Trial
-  following = tried s clock held j new t (n + 1)
+  following = tried s g j new t (n + 1)
 
-  best-same : trials s clock held j new t (n + 1) ≡ trials s clock held j new t n → IsBest s clock held j new t (n + 1) kept
+  best-same : trials s g j new t (n + 1) ≡ trials s g j new t n → IsBest s g j new t (n + 1) kept
   best-same e = record { among = λ h. let was = best .among h in omega arith; is = rw e (best .is) }
 
-  best-unable : run-time j t (n + 1) ≡ 0 → IsBest s clock held j new t (n + 1) kept
-  best-unable e = best-same (trials-unable s clock held j new t n (le-ltb 0 (run-time j t (n + 1)) (omega arith)))
+  best-unable : run-time j t (n + 1) ≡ 0 → IsBest s g j new t (n + 1) kept
+  best-unable e = best-same (trials-unable s g j new t n (le-ltb 0 (run-time j t (n + 1)) (omega arith)))
 
   module _ (runs : 1 ≤ run-time j t (n + 1)) {it : Attempt} (its : IsTrial following it) where
     -- it is good if code's finish is not past the deadline
-    with-it : trials s clock held j new t (n + 1) ≡ trials s clock held j new t n ++ cons-if (leb (it .finish) (task-of j t .deadline)) following []
+    with-it : trials s g j new t (n + 1) ≡ trials s g j new t n ++ cons-if (leb (it .finish) (task-of j t .deadline)) following []
     unfolding good
     with-it =
-        trials-able s clock held j new t n (lt-ltb 0 (run-time j t (n + 1)) runs)
-        ∙ ap (λ x. trials s clock held j new t n ++ cons-if (leb x (task-of j t .deadline)) following []) (sym (its .finish-is))
+        trials-able s g j new t n (lt-ltb 0 (run-time j t (n + 1)) runs)
+        ∙ ap (λ x. trials s g j new t n ++ cons-if (leb x (task-of j t .deadline)) following []) (sym (its .finish-is))
 
-    best-late : task-of j t .deadline < it .finish → IsBest s clock held j new t (n + 1) kept
+    best-late : task-of j t .deadline < it .finish → IsBest s g j new t (n + 1) kept
     best-late late =
-        best-same (rw (with-it, lt-leb (it .finish) (task-of j t .deadline) late) (append-nil (trials s clock held j new t n)))
+        best-same (rw (with-it, lt-leb (it .finish) (task-of j t .deadline) late) (append-nil (trials s g j new t n)))
 
     module _ (in-time : it .finish ≤ task-of j t .deadline) where
       -- the rules' order is code's test
       first :
-          later figures following (foremost figures (trials s clock held j new t n))
-          ≡ cond (comes-first it kept) following (tried s clock held j new t (kept .machine))
+          later figures following (foremost figures (trials s g j new t n))
+          ≡ cond (comes-first it kept) following (tried s g j new t (kept .machine))
       first =
           by-test
           (kept .found)
@@ -184,22 +186,22 @@ module _ {s : Setup} {clock : ℕ} {held : List Row} {j : Job} {new : List Row} 
           rw (
             found .0,
             e,
-            figures-are s clock held j new t (n + 1) its,
-            figures-are s clock held j new t (kept .machine) (found .1),
+            figures-are s g j new t (n + 1) its,
+            figures-are s g j new t (kept .machine) (found .1),
             order,
           )
           refl)
           (λ e. rw (best .is .none-found e, e) refl)
 
       foremost-is :
-          foremost figures (trials s clock held j new t (n + 1))
-          ≡ some (cond (comes-first it kept) following (tried s clock held j new t (kept .machine)))
+          foremost figures (trials s g j new t (n + 1))
+          ≡ some (cond (comes-first it kept) following (tried s g j new t (kept .machine)))
       foremost-is =
           rw
           (with-it, le-leb (it .finish) (task-of j t .deadline) in-time)
-          (foremost-more figures (trials s clock held j new t n) following ∙ ap some first)
+          (foremost-more figures (trials s g j new t n) following ∙ ap some first)
 
-      best-stays : comes-first it kept ≡ false → IsBest s clock held j new t (n + 1) kept
+      best-stays : comes-first it kept ≡ false → IsBest s g j new t (n + 1) kept
       best-stays e =
           record {
             among = λ h. let was = best .among h in omega arith;
@@ -209,7 +211,7 @@ module _ {s : Setup} {clock : ℕ} {held : List Row} {j : Job} {new : List Row} 
             };
           }
 
-      best-taken : comes-first it kept ≡ true → IsBest s clock held j new t (n + 1) (record { found = true; machine = n + 1; best = it })
+      best-taken : comes-first it kept ≡ true → IsBest s g j new t (n + 1) (record { found = true; machine = n + 1; best = it })
       best-taken e =
           record {
             among = λ h. omega arith;
@@ -233,8 +235,8 @@ pub record Chosen
   pub columns : ColumnsLeft resources starts finishes used resources′ starts′ finishes′
   pub bounds : AttemptBounds (kept .best)
   pub is :
-      (held new : List Row) (clock : ℕ) → InRange s j → Beside j machines done t resources starts finishes used held new →
-      release ≡ rules-release clock j new t → IsBest s clock held j new t n kept
+      (held new : List Row) (base : ℕ) → InRange s j → Beside j machines done t resources starts finishes used held new →
+      release ≡ rules-release (on-rows base held) j new t → IsBest s (on-rows base held) j new t n kept
 
 -- the run time that code reads at a place
 pub run-at : (j : Job) (t n : ℕ) → run-time j t (n + 1) ≡ getD (task-of j t .runs) n 0
@@ -258,7 +260,7 @@ module _
           within = omega arith;
           columns = left-none (ask .widths);
           bounds = bounds;
-          is = λ held new clock range beside floor. best-none s clock held j new t kept e;
+          is = λ held new base range beside floor. best-none s (on-rows base held) j new t kept e;
         }
 
     module _ {resources′ starts′ finishes′ : List ℕ} {kept : Kept} {n : ℕ} (sofar : Now resources′ starts′ finishes′ kept n) where
@@ -269,7 +271,8 @@ module _
           record {
             columns = sofar .columns;
             bounds = sofar .bounds;
-            is = λ held new clock range beside floor. subst (λ k. IsBest s clock held j new t k kept) same (sofar .is held new clock range beside floor) .is;
+            is = λ held new base range beside floor. subst (λ k. IsBest s (on-rows base held) j new t k kept) same
+                (sofar .is held new base range beside floor) .is;
           }
 
       module _ (more : n < s .table .machines) where
@@ -280,8 +283,8 @@ module _
               columns = sofar .columns;
               bounds = sofar .bounds;
               is =
-                  λ held new clock range beside floor.
-                  best-unable (sofar .is held new clock range beside floor) (run-at j t n ∙ e);
+                  λ held new base range beside floor.
+                  best-unable (sofar .is held new base range beside floor) (run-at j t n ∙ e);
             }
 
         module _ (able : getD (task-of j t .runs) n 0 ≡ 0 → ⊥) where
@@ -305,9 +308,9 @@ module _
               (result : AttemptIs s j machines done t (n + 1) release resources′ starts′ finishes′ used resources″ starts″ finishes″ it)
             where
               its :
-                  (held new : List Row) (clock : ℕ) → InRange s j → Beside j machines done t resources starts finishes used held new →
-                  release ≡ rules-release clock j new t → IsTrial (try s clock held j new t (n + 1)) it
-              its held new clock range beside floor = result .is held new clock range (beside-carries (sofar .columns) beside) floor
+                  (held new : List Row) (base : ℕ) → InRange s j → Beside j machines done t resources starts finishes used held new →
+                  release ≡ rules-release (on-rows base held) j new t → IsTrial (try s (on-rows base held) j new t (n + 1)) it
+              its held new base range beside floor = result .is held new base range (beside-carries (sofar .columns) beside) floor
 
               pub chosen-late : task-of j t .deadline < it .finish → Now resources″ starts″ finishes″ kept (n + 1)
               chosen-late late =
@@ -316,8 +319,8 @@ module _
                     columns = left-then (sofar .columns) (result .columns);
                     bounds = sofar .bounds;
                     is =
-                        λ held new clock range beside floor.
-                        best-late (sofar .is held new clock range beside floor) runs (its held new clock range beside floor) late;
+                        λ held new base range beside floor.
+                        best-late (sofar .is held new base range beside floor) runs (its held new base range beside floor) late;
                   }
 
               module _ (in-time : it .finish ≤ task-of j t .deadline) {first : Bool} (test : first ≡ comes-first it kept) where
@@ -328,8 +331,8 @@ module _
                       columns = left-then (sofar .columns) (result .columns);
                       bounds = sofar .bounds;
                       is =
-                          λ held new clock range beside floor.
-                          best-stays (sofar .is held new clock range beside floor) runs (its held new clock range beside floor) in-time (sym test ∙ e);
+                          λ held new base range beside floor.
+                          best-stays (sofar .is held new base range beside floor) runs (its held new base range beside floor) in-time (sym test ∙ e);
                     }
 
                 pub chosen-taken : first ≡ true → Now resources″ starts″ finishes″ (record { found = true; machine = n + 1; best = it }) (n + 1)
@@ -339,6 +342,6 @@ module _
                       columns = left-then (sofar .columns) (result .columns);
                       bounds = result .bounds;
                       is =
-                          λ held new clock range beside floor.
-                          best-taken (sofar .is held new clock range beside floor) runs (its held new clock range beside floor) in-time (sym test ∙ e);
+                          λ held new base range beside floor.
+                          best-taken (sofar .is held new base range beside floor) runs (its held new base range beside floor) in-time (sym test ∙ e);
                     }

@@ -23,18 +23,22 @@ use Rattle.rules.proofs.Inputs.{Differ}
 use Rattle.rules.proofs.Differ.{in-range-differ}
 use Rattle.placement.proofs.Gathering.{into-first}
 
-into-next : (j : Job) (t i : ℕ) (d : Message) → i < length (j .messages) → into-first j t (suc i) ≡ into-first j t i ++ cons-if (eqb (getD (j .messages) i d .receiver) t) (getD (j .messages) i d) []
+into-next : (j : Job) (t i : ℕ) (d : Message) → i < length (j .messages) →
+    into-first j t (suc i) ≡ into-first j t i ++ cons-if (eqb (getD (j .messages) i d .receiver) t) (getD (j .messages) i d) []
 into-next j t i d h = rw (take-suc (j .messages) i d h) (keep-append (λ msg. eqb (msg .receiver) t) (take i (j .messages)) (getD (j .messages) i d ∷ []))
 
-pub into-more : (j : Job) (t i : ℕ) (d : Message) → i < length (j .messages) → getD (j .messages) i d .receiver ≡ t → into-first j t (suc i) ≡ into-first j t i ++ (getD (j .messages) i d ∷ [])
+pub into-more : (j : Job) (t i : ℕ) (d : Message) → i < length (j .messages) → getD (j .messages) i d .receiver ≡ t →
+    into-first j t (suc i) ≡ into-first j t i ++ (getD (j .messages) i d ∷ [])
 into-more j t i d h e = rw (into-next j t i d h, eq-eqb (getD (j .messages) i d .receiver) t e) refl
 
-pub into-same : (j : Job) (t i : ℕ) (d : Message) → i < length (j .messages) → (getD (j .messages) i d .receiver ≡ t → ⊥) → into-first j t (suc i) ≡ into-first j t i
+pub into-same : (j : Job) (t i : ℕ) (d : Message) → i < length (j .messages) → (getD (j .messages) i d .receiver ≡ t → ⊥) →
+    into-first j t (suc i) ≡ into-first j t i
 into-same j t i d h e = rw (into-next j t i d h, ne-eqb (getD (j .messages) i d .receiver) t e) (append-nil (into-first j t i))
 
 -- the first messages into a task are among all
 take-mem : {A : Type 0} (i n : ℕ) (l : List A) {x : A} → i ≤ n → List·Memᴰ x (take i l) → List·Memᴰ x (take n l)
-take-mem i n l h m = subst (List·Memᴰ _) (ap (λ v. v ++ drop i (take n l)) (sym (take-take i n l h)) ∙ take-append-drop i (take n l)) (Memᴰ·append-left (drop i (take n l)) m)
+take-mem i n l h m =
+    subst (List·Memᴰ _) (ap (λ v. v ++ drop i (take n l)) (sym (take-take i n l h)) ∙ take-append-drop i (take n l)) (Memᴰ·append-left (drop i (take n l)) m)
 
 pub into-among : (j : Job) (t i : ℕ) {x : Message} → i ≤ j .messagecount → List·Memᴰ x (into-first j t i) → List·Memᴰ x (into j t)
 into-among j t i h m =

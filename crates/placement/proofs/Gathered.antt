@@ -9,25 +9,27 @@ use native.Mathlib.Numerals.{add-one}
 use native.Mathlib.Nat.{mul-le-mul}
 use lib.Dec.{eqb}
 use lib.ListN.{length, getD, take, set, length-set, length-take}
-use lib.Seq.{take-suc, take-suc-set, getD-take, getD-set-same, getD-set-other}
+use lib.Seq.{take-suc-set, getD-take, getD-set-same, getD-set-other}
 use borrow.Author.Tests.{eqb-true, eqb-false, eq-eqb}
 use Rattle.rules.specs.declared.Holder.the-variants.{MessageOn}
 use Rattle.rules.specs.declared.Row.{Row}
 use Rattle.rules.specs.declared.Message.{Message}
 use Rattle.rules.specs.declared.Job.{Job}
 use Rattle.rules.specs.declared.Setup.{Setup}
-use Rattle.rules.specs.Sequences.{keep}
 use Rattle.rules.specs.Words.{link, held-by, messages-of, most-tasks, most-messages}
 use Rattle.rules.specs.Asked.{HasLink}
-use Rattle.rules.specs.Placing.{least-free, spans-on, transfer, message-booking, task-row, machine-for, crosses, into, placed, message-trials, all-arrived}
+use Rattle.rules.specs.Placing.{least-free, spans-on, transfer, message-booking, task-row, machine-for, crosses, into, message-trials, all-arrived}
 use Rattle.rules.specs.Bounds.{largest-cost}
 use Rattle.rules.specs.Demands.{InRange}
 use Rattle.rules.proofs.Sequences.{keep-mem, getD-mem, by-test}
 use Rattle.rules.proofs.Pairs.{Pairwise}
 use Rattle.rules.proofs.Inputs.{Differ}
 use Rattle.rules.proofs.LeastTick.{least-at-most}
-use Rattle.placement.specs.Columns.{key, room, Widths, Mirrors, spans-of}
-use Rattle.placement.specs.Asked.{Numbered, on-link}
+use Rattle.rules.specs.Words.{holds}
+use Rattle.rules.specs.Codes.{resource-number}
+use Rattle.rules.proofs.Resources.{holds-append}
+use Rattle.placement.specs.Columns.{room, Widths, Mirrors, spans-of}
+use Rattle.rules.specs.Codes.{Numbered, on-link}
 use Rattle.placement.specs.Trials.{Beside, Same, AskInput, AskInputs, InputsAre, InputIs, reach}
 use Rattle.placement.proofs.Passes.{spans-of-mem}
 use Rattle.placement.proofs.Mirror.{spans-mirror, mirror-more}
@@ -35,7 +37,8 @@ use Rattle.placement.proofs.Gathering.{into-first, Tried, tried-without
 use Rattle.placement.proofs.Crossings.{into-more, into-same, into-among, first-differ, transfer-takes}
 
 -- what the rules say of the messages passed, and the columns of their rows
-pub record Follows (s : Setup) (j : Job) (t m release : ℕ) (held new : List Row) (resources starts finishes : List ℕ) (n : ℕ) (tried : List Row) (arrived cost i : ℕ) : Type 0 where
+pub record Follows (s : Setup) (j : Job) (t m release : ℕ) (held new : List Row) (resources starts finishes : List ℕ) (n : ℕ) (tried : List Row)
+    (arrived cost i : ℕ) : Type 0 where
   pub so-far : Tried s j m release held new (into-first j t i) tried arrived cost
   pub mirrors : Mirrors (held ++ (new ++ tried)) resources starts finishes n
   pub numbered : (row : Row) → List·Memᴰ row (held ++ (new ++ tried)) → Numbered (row .holder)
@@ -144,7 +147,8 @@ module _
         from = getD done (msg .sender - 1) 0
 
         listed : List·Memᴰ msg (messages-of j)
-        listed = subst (λ x. List·Memᴰ x (messages-of j)) (getD-take (j .messagecount) (j .messages) i d more-left) (getD-mem (messages-of j) i d (let l = length-take (j .messagecount) (j .messages) in omega arith))
+        listed = subst (λ x. List·Memᴰ x (messages-of j)) (getD-take (j .messagecount) (j .messages) i d more-left)
+            (getD-mem (messages-of j) i d (let l = length-take (j .messagecount) (j .messages) in omega arith))
 
         incoming : msg .receiver ≡ t → List·Memᴰ msg (into j t)
         incoming e = keep-mem (λ x. eqb (x .receiver) t) listed (eq-eqb (msg .receiver) t e)
@@ -152,7 +156,8 @@ module _
         among : msg .receiver ≡ t → (x : Message) → List·Memᴰ x (into-first j t i ++ (msg ∷ [])) → List·Memᴰ x (into j t)
         among e x n = into-among j t (suc i) more-left (subst (List·Memᴰ x) (sym (into-more j t i d (omega arith) e)) n)
 
-        module _ (e : msg .receiver ≡ t) (held new : List Row) (range : InRange s j) (beside : Beside j machines done t resources starts finishes used held new) where
+        module _ (e : msg .receiver ≡ t) (held new : List Row) (range : InRange s j)
+            (beside : Beside j machines done t resources starts finishes used held new) where
           its-sender : (machine-for new (msg .sender) ≡ a) × (task-row new (msg .sender) .finish ≡ from)
           its-sender =
               let is = ask .order .ends msg listed .0 in
@@ -228,7 +233,7 @@ module _
             let sender = ask .senders msg (incoming e) in
             let volume = ask .volumes msg listed in
             let takes = transfer-takes s msg a m (ask .sound) (sender .on) (ask .there) volume c in
-            let spans = spans-of (key (link a m)) resources′ starts′ finishes′ (used + count) in
+            let spans = spans-of (resource-number (link a m)) resources′ starts′ finishes′ (used + count) in
             let low = sender .done in
             let at-most : least-free from (transfer s msg a m) spans ≤ reach count
             = least-at-most
@@ -238,7 +243,7 @@ module _
             (reach count)
             (omega arith)
             (λ x n.
-            let r = spans-of-mem (key (link a m)) resources′ starts′ finishes′ (used + count) n in
+            let r = spans-of-mem (resource-number (link a m)) resources′ starts′ finishes′ (used + count) n in
             let end = g .working .ends (r .0) (r .1) in
             rw (r .2) end) in
             let least = takes .0 in
@@ -269,7 +274,7 @@ module _
             resources
             starts
             finishes
-            (set resources′ n (key (held-by (row .holder))))
+            (set resources′ n (resource-number (held-by (row .holder))))
             (set starts′ n (row .start))
             (set finishes′ n (row .finish))
             used
@@ -282,7 +287,7 @@ module _
             let in-finishes : n < length finishes′ = let l = long .finishes-long in let h = fits in omega arith in
             record {
               widths = record {
-                resources-long = length-set resources′ n (key (held-by (row .holder))) ∙ long .resources-long;
+                resources-long = length-set resources′ n (resource-number (held-by (row .holder))) ∙ long .resources-long;
                 starts-long = length-set starts′ n (row .start) ∙ long .starts-long;
                 finishes-long = length-set finishes′ n (row .finish) ∙ long .finishes-long;
               };
@@ -336,7 +341,7 @@ module _
             release
             held
             new
-            (set resources′ n (key (held-by (row .holder))))
+            (set resources′ n (resource-number (held-by (row .holder))))
             (set starts′ n (row .start))
             (set finishes′ n (row .finish))
             (used + suc count)
@@ -356,9 +361,9 @@ module _
             let rows-are : held ++ (new ++ (tried ++ (row ∷ []))) ≡ (held ++ (new ++ tried)) ++ (row ∷ [])
             = ap (λ l. held ++ l) (sym (append-assoc new tried (row ∷ []))) ∙ sym (append-assoc held (new ++ tried) (row ∷ [])) in
             let numbered-row : Numbered (row .holder) = rw (row-figures e c row is .holder-is) (on-link (its-link e)) in
-            let sought : spans-of (key (link a m)) resources′ starts′ finishes′ n ≡ spans-on (link a m) (held ++ (new ++ tried))
+            let sought : spans-of (resource-number (link a m)) resources′ starts′ finishes′ n ≡ spans-on (link a m) (holds held ++ holds (new ++ tried))
             = spans-are held new tried (f .mirrors) (f .numbered) (its-link e) in
-            let is-booking : row ≡ message-booking s j msg a m (least-free from (transfer s msg a m) (spans-on (link a m) (held ++ (new ++ tried))))
+            let is-booking : row ≡ message-booking s j msg a m (least-free from (transfer s msg a m) (spans-on (link a m) (holds held ++ holds (new ++ tried))))
             = is .is j refl ∙ ap (λ l. message-booking s j msg a m (least-free from (transfer s msg a m) l)) sought in
             record {
               so-far =
@@ -401,8 +406,10 @@ module _
             spans-are :
                 (held new tried : List Row) → Mirrors (held ++ (new ++ tried)) resources′ starts′ finishes′ n →
                 ((x : Row) → List·Memᴰ x (held ++ (new ++ tried)) → Numbered (x .holder)) → HasLink a m →
-                spans-of (key (link a m)) resources′ starts′ finishes′ n ≡ spans-on (link a m) (held ++ (new ++ tried))
-            spans-are held new tried mi nu ends = spans-mirror (held ++ (new ++ tried)) resources′ starts′ finishes′ n mi nu (MessageOn a m 0 0) (on-link ends)
+                spans-of (resource-number (link a m)) resources′ starts′ finishes′ n ≡ spans-on (link a m) (holds held ++ holds (new ++ tried))
+            spans-are held new tried mi nu ends =
+                spans-mirror (held ++ (new ++ tried)) resources′ starts′ finishes′ n mi nu (MessageOn a m 0 0) (on-link ends)
+                ∙ ap (spans-on (link a m)) (holds-append held (new ++ tried))
 
         -- What the code asks on the way.
 
@@ -410,7 +417,8 @@ module _
         room-left = fits
 
         pub sender-listed : (1 ≤ msg .sender) × (msg .sender ≤ most-tasks)
-        sender-listed = let is = ask .order .ends msg listed .0 in let low = is .first in let high = is .last in let few = ask .order .tasks in (omega arith, omega arith)
+        sender-listed =
+            let is = ask .order .ends msg listed .0 in let low = is .first in let high = is .last in let few = ask .order .tasks in (omega arith, omega arith)
 
         pub ask-input : msg .receiver ≡ t → crosses msg a m ≡ true → AskInput s msg a m from starts′ finishes′ n
         ask-input e c =
@@ -445,7 +453,7 @@ module _
             msg .receiver ≡ t → crosses msg (getD machines (msg .sender - 1) 0) m ≡ true → (row : Row) →
             InputIs s (j .number) msg (getD machines (msg .sender - 1) 0) m (getD done (msg .sender - 1) 0) resources′ starts′ finishes′ (used + count) row →
             Now
-            (set resources′ (used + count) (key (held-by (row .holder))))
+            (set resources′ (used + count) (resource-number (held-by (row .holder))))
             (set starts′ (used + count) (row .start))
             (set finishes′ (used + count) (row .finish))
             (set rows count row)
@@ -466,7 +474,7 @@ module _
         pub gathered-with-next :
             msg .receiver ≡ t → crosses msg (getD machines (msg .sender - 1) 0) m ≡ true → (row : Row) →
             InputIs s (j .number) msg (getD machines (msg .sender - 1) 0) m (getD done (msg .sender - 1) 0) resources′ starts′ finishes′ (used + count) row →
-            {resources″ starts″ finishes″ : List ℕ} → resources″ ≡ set resources′ (used + count) (key (held-by (row .holder))) →
+            {resources″ starts″ finishes″ : List ℕ} → resources″ ≡ set resources′ (used + count) (resource-number (held-by (row .holder))) →
             starts″ ≡ set starts′ (used + count) (row .start) → finishes″ ≡ set finishes′ (used + count) (row .finish) →
             {later : ℕ} → later ≡ max arrived (row .finish) →
             Now resources″ starts″ finishes″ (set rows count row) (count + 1) later (cost + row .cost) (i + 1)

@@ -12,11 +12,13 @@ use Rattle.rules.specs.declared.Job.{Job}
 use Rattle.rules.specs.declared.Setup.{Setup}
 use Rattle.rules.specs.Sequences.{any-of, keep}
 use Rattle.rules.specs.Words.{link}
-use Rattle.rules.specs.Placing.{least-free, spans-on, transfer, message-booking, books-task, books-message, no-row, task-row, machine-for, placed, crosses, arrival, into, message-trial, message-trials, all-arrived, costs}
+use Rattle.rules.specs.Placing.{least-free, spans-on, transfer, message-booking, books-task, books-message, no-row, task-row, machine-for, placed, crosses}
+use Rattle.rules.specs.Placing.{arrival, message-trial, message-trials, all-arrived, costs}
 use Rattle.rules.proofs.Sequences.{any-append, or-right, first-append, first-skip, sum-append}
 use Rattle.rules.proofs.Pairs.{Pairwise, pairwise-front, pairwise-across}
-use Rattle.rules.proofs.Inputs.{Differ, crossing, booking, Booked, message-trials-book, booked-none, booked-found, pair-books}
+use Rattle.rules.proofs.Inputs.{Differ, crossing, Booked, message-trials-book, booked-none, booked-found, pair-books}
 use Rattle.rules.proofs.Due.{arrival-stays}
+use Rattle.rules.specs.Words.{holds}
 
 -- Lists of messages.
 
@@ -25,13 +27,15 @@ abbrev pub into-first : Job → ℕ → ℕ → List Message
 into-first j t i = keep (λ msg. eqb (msg .receiver) t) (take i (j .messages))
 
 module _ (s : Setup) (held : List Row) (j : Job) (new : List Row) (m : ℕ) where
-  pub trials-append : (tried : List Row) (a b : List Message) → message-trials s held j new m tried (a ++ b) ≡ message-trials s held j new m (message-trials s held j new m tried a) b
+  pub trials-append : (tried : List Row) (a b : List Message) →
+      message-trials s (holds held) j new m tried (a ++ b) ≡ message-trials s (holds held) j new m (message-trials s (holds held) j new m tried a) b
   unfolding message-trials
   trials-append tried [] b = refl
-  trials-append tried (msg ∷ a) b = trials-append (tried ++ message-trial s held j new m tried msg) a b
+  trials-append tried (msg ∷ a) b = trials-append (tried ++ message-trial s (holds held) j new m tried msg) a b
 
 -- the last arrival, of one message more
-pub arrived-append : (rows : List Row) (b from : ℕ) (msgs : List Message) (msg : Message) → all-arrived rows b from (msgs ++ (msg ∷ [])) ≡ max (all-arrived rows b from msgs) (arrival rows msg b)
+pub arrived-append : (rows : List Row) (b from : ℕ) (msgs : List Message) (msg : Message) →
+    all-arrived rows b from (msgs ++ (msg ∷ [])) ≡ max (all-arrived rows b from msgs) (arrival rows msg b)
 unfolding all-arrived
 arrived-append rows b from [] msg = omega arith
 arrived-append rows b from (x ∷ msgs) msg = let below = arrived-append rows b from msgs msg in omega arith
@@ -51,7 +55,7 @@ arrived-stays rows rows′ b from (x ∷ msgs) h =
 
 -- the rows tried of the first messages, as the code has them
 pub record Tried (s : Setup) (j : Job) (m release : ℕ) (held new : List Row) (msgs : List Message) (tried : List Row) (arrived cost : ℕ) : Type 0 where
-  pub rows-are : tried ≡ message-trials s held j new m [] msgs
+  pub rows-are : tried ≡ message-trials s (holds held) j new m [] msgs
   pub arrived-is : arrived ≡ all-arrived (new ++ tried) m release msgs
   pub cost-is : cost ≡ costs tried
 
@@ -80,7 +84,7 @@ module _
 
     is-booked : Booked s j new m tried msgs
     is-booked =
-        let r = message-trials-book s j new m held [] msgs in
+        let r = message-trials-book s j new m (holds held) [] msgs in
         subst (λ rows. Booked s j new m rows msgs) (sym (sofar .rows-are ∙ r .1)) (r .2)
 
     -- a sender's row stays what it is
@@ -93,7 +97,7 @@ module _
     tried-without c = record {
       rows-are =
           rw
-          (trials-append s held j new m [] msgs (msg ∷ []), c, append-nil (message-trials s held j new m [] msgs))
+          (trials-append s held j new m [] msgs (msg ∷ []), c, append-nil (message-trials s (holds held) j new m [] msgs))
           (sofar .rows-are);
       arrived-is =
           let at : arrival (new ++ tried) msg m ≡ done = rw (sender-there msg in-list tried, c) refl in
@@ -123,11 +127,11 @@ module _
     -- and it arrives at the finish of its own
     arrives-with :
         crosses msg a m ≡ true → (row : Row) →
-        row ≡ message-booking s j msg a m (least-free done (transfer s msg a m) (spans-on (link a m) (held ++ (new ++ tried)))) →
+        row ≡ message-booking s j msg a m (least-free done (transfer s msg a m) (spans-on (link a m) (holds held ++ holds (new ++ tried)))) →
         arrival (new ++ (tried ++ (row ∷ []))) msg m ≡ row .finish
     unfolding arrival
     arrives-with c row is =
-        let at = least-free done (transfer s msg a m) (spans-on (link a m) (held ++ (new ++ tried))) in
+        let at = least-free done (transfer s msg a m) (spans-on (link a m) (holds held ++ holds (new ++ tried))) in
         let own : books-message msg row ≡ true
         = subst (λ r. books-message msg r ≡ true) (sym is) (pair-books s j msg msg a m at (record { sender = refl; receiver = refl })) in
         let none-tried : any-of (books-message msg) tried ≡ false
@@ -144,7 +148,7 @@ module _
     -- it takes a row, and arrives at its finish
     pub tried-with :
         crosses msg a m ≡ true → (row : Row) →
-        row ≡ message-booking s j msg a m (least-free done (transfer s msg a m) (spans-on (link a m) (held ++ (new ++ tried)))) →
+        row ≡ message-booking s j msg a m (least-free done (transfer s msg a m) (spans-on (link a m) (holds held ++ holds (new ++ tried)))) →
         Tried s j m release held new (msgs ++ (msg ∷ [])) (tried ++ (row ∷ [])) (max arrived (row .finish)) (cost + row .cost)
     unfolding message-trials message-trial
     tried-with c row is = record {

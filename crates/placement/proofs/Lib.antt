@@ -1,7 +1,7 @@
 -- Laws that the functions' proofs cite.
 pub mod Sums
 pub mod Passes
-pub mod Chaining
+pub mod Threading
 pub mod Mirror
 pub mod Figures
 pub mod Foremost

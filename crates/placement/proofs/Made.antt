@@ -31,5 +31,6 @@ made-more {d = d} {of} {rows} {column} {i} m h x e = record {
 
 -- a column up to a count is one up to a lesser count
 pub made-fewer :
-    {A : Type 0} {d : A} {of : Row → A} {rows : List Row} {column : List A} {count i : ℕ} → ColumnOf d of rows i column → count ≤ i → ColumnOf d of rows count column
+    {A : Type 0} {d : A} {of : Row → A} {rows : List Row} {column : List A} {count i : ℕ} → ColumnOf d of rows i column → count ≤ i →
+    ColumnOf d of rows count column
 made-fewer m all = record { long = m .long; is = λ k h. m .is k (omega arith) }

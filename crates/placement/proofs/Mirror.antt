@@ -16,21 +16,22 @@ use Rattle.rules.specs.Words.{Resource, machine, link, same, held-by, resource,
 use Rattle.rules.specs.Asked.{HasMachine, HasLink}
 use Rattle.rules.specs.Placing.{spans-on, no-row}
 use Rattle.rules.proofs.Sequences.{by-test, clash, and-true, and-both, keep-append, getD-mem}
-use Rattle.placement.specs.Columns.{key, spans-of, room, Widths, Mirrors}
-use Rattle.placement.specs.Asked.{Numbered, on-machine, on-link}
+use Rattle.rules.specs.Words.{holds, hold-of, Hold}
+use Rattle.rules.specs.Codes.{resource-number}
+use Rattle.rules.proofs.Resources.{holds-append}
+use Rattle.placement.specs.Columns.{spans-of, room, Widths, Mirrors}
+use Rattle.rules.specs.Codes.{Numbered, on-machine, on-link}
 
 -- The number of a resource.
 
-link-not-machine : (m a b : ℕ) → HasMachine m → HasLink a b → m ≡ key (link a b) → ⊥
-unfolding key
+link-not-machine : (m a b : ℕ) → HasMachine m → HasLink a b → m ≡ resource-number (link a b) → ⊥
 link-not-machine m a b on ends e = omega arith
 
-link-parts : (a b c d : ℕ) → HasLink a b → HasLink c d → key (link a b) ≡ key (link c d) → (a ≡ c) × (b ≡ d)
-unfolding key
+link-parts : (a b c d : ℕ) → HasLink a b → HasLink c d → resource-number (link a b) ≡ resource-number (link c d) → (a ≡ c) × (b ≡ d)
 link-parts a b c d p q e = (omega arith, omega arith)
 
-pub key-injective : (g h : Holder) → Numbered g → Numbered h → key (held-by g) ≡ key (held-by h) → held-by g ≡ held-by h
-unfolding key held-by
+pub key-injective : (g h : Holder) → Numbered g → Numbered h → resource-number (held-by g) ≡ resource-number (held-by h) → held-by g ≡ held-by h
+unfolding held-by
 key-injective (TaskOn m t) (TaskOn n u) (on-machine p) (on-machine q) e = ap machine e
 key-injective (TaskOn m t) (MessageOn a b x y) (on-machine p) (on-link q) e = absurd (link-not-machine m a b p q e)
 key-injective (MessageOn a b x y) (TaskOn m t) (on-link p) (on-machine q) e = absurd (link-not-machine m a b q p (sym e))
@@ -38,8 +39,7 @@ key-injective (MessageOn a b x y) (MessageOn c d v w) (on-link p) (on-link q) e 
     let parts = link-parts a b c d p q e in rw (parts .0, parts .1) refl
 
 -- two links have equal numbers exactly if their machines are equal in turn
-link-same : (a b c d : ℕ) → HasLink a b → HasLink c d → eqb (key (link a b)) (key (link c d)) ≡ eqb a c && eqb b d
-unfolding key
+link-same : (a b c d : ℕ) → HasLink a b → HasLink c d → eqb (resource-number (link a b)) (resource-number (link c d)) ≡ eqb a c && eqb b d
 link-same a b c d p q =
     by-test
     (eqb a c && eqb b d)
@@ -47,32 +47,32 @@ link-same a b c d p q =
     let both = and-true (eqb a c) (eqb b d) h in
     let first = eqb-true a c (both .0) in
     let second = eqb-true b d (both .1) in
-    eq-eqb (key (link a b)) (key (link c d)) (omega arith) ∙ sym h)
+    eq-eqb (resource-number (link a b)) (resource-number (link c d)) (omega arith) ∙ sym h)
     (λ h.
     ne-eqb
-    (key (link a b))
-    (key (link c d))
+    (resource-number (link a b))
+    (resource-number (link c d))
     (λ e. let parts = link-parts a b c d p q e in clash (and-both _ _ (eq-eqb a c (parts .0)) (eq-eqb b d (parts .1))) h)
     ∙ sym h)
 
 -- equal numbers are the rules' test of equal resources
-pub key-same : (g h : Holder) → Numbered g → Numbered h → eqb (key (held-by g)) (key (held-by h)) ≡ same (held-by g) (held-by h)
-unfolding key held-by same
+pub key-same : (g h : Holder) → Numbered g → Numbered h → eqb (resource-number (held-by g)) (resource-number (held-by h)) ≡ same (held-by g) (held-by h)
+unfolding held-by same
 key-same (TaskOn m t) (TaskOn n u) (on-machine p) (on-machine q) = refl
-key-same (TaskOn m t) (MessageOn a b x y) (on-machine p) (on-link q) = ne-eqb m (key (link a b)) (link-not-machine m a b p q)
+key-same (TaskOn m t) (MessageOn a b x y) (on-machine p) (on-link q) = ne-eqb m (resource-number (link a b)) (link-not-machine m a b p q)
 key-same (MessageOn a b x y) (TaskOn m t) (on-link p) (on-machine q) =
-    ne-eqb (key (link a b)) m (λ e. link-not-machine m a b q p (sym e))
+    ne-eqb (resource-number (link a b)) m (λ e. link-not-machine m a b q p (sym e))
 key-same (MessageOn a b x y) (MessageOn c d v w) (on-link p) (on-link q) = link-same a b c d p q
 
 -- Spans.
 
-spans-append : (r : Resource) (a b : List Row) → spans-on r (a ++ b) ≡ spans-on r a ++ spans-on r b
+spans-append : (r : Resource) (a b : List Hold) → spans-on r (a ++ b) ≡ spans-on r a ++ spans-on r b
 unfolding spans-on
 spans-append r a b =
-    ap (map span) (keep-append (λ row. same (resource row) r) a b) ∙ map-append span (keep (λ row. same (resource row) r) a) (keep (λ row. same (resource row) r) b)
+    ap (map (λ h. h .span)) (keep-append (λ h. same (h .on) r) a b) ∙ map-append (λ h. h .span) (keep (λ h. same (h .on) r) a) (keep (λ h. same (h .on) r) b)
 
 -- the spans of one row
-spans-one : (r : Resource) (row : Row) → spans-on r (row ∷ []) ≡ cons-if (same (resource row) r) (span row) []
+spans-one : (r : Resource) (row : Row) → spans-on r (hold-of row ∷ []) ≡ cons-if (same (resource row) r) (span row) []
 unfolding spans-on
 spans-one r row = by-test (same (resource row) r) (λ h. rw h refl) (λ h. rw h refl)
 
@@ -80,19 +80,20 @@ spans-one r row = by-test (same (resource row) r) (λ h. rw h refl) (λ h. rw h 
 pub spans-mirror :
     (rows : List Row) (resources starts finishes : List ℕ) (n : ℕ) →
     Mirrors rows resources starts finishes n → ((row : Row) → List·Memᴰ row rows → Numbered (row .holder)) → (h : Holder) → Numbered h →
-    spans-of (key (held-by h)) resources starts finishes n ≡ spans-on (held-by h) rows
+    spans-of (resource-number (held-by h)) resources starts finishes n ≡ spans-on (held-by h) (holds rows)
 unfolding spans-on
 spans-mirror rows resources starts finishes n m numbered h listed =
-    go n (omega arith) ∙ ap (spans-on (held-by h)) (take-all n rows (let all = m .all in omega arith))
+    go n (omega arith) ∙ ap (λ l. spans-on (held-by h) (holds l)) (take-all n rows (let all = m .all in omega arith))
   where
-    go : (i : ℕ) → i ≤ n → spans-of (key (held-by h)) resources starts finishes i ≡ spans-on (held-by h) (take i rows)
+    go : (i : ℕ) → i ≤ n → spans-of (resource-number (held-by h)) resources starts finishes i ≡ spans-on (held-by h) (holds (take i rows))
     go zero below = refl
     go (suc i) below =
         let all = m .all in
         let row = getD rows i no-row in
         rw (
           take-suc rows i no-row (omega arith),
-          spans-append (held-by h) (take i rows) (row ∷ []),
+          holds-append (take i rows) (row ∷ []),
+          spans-append (held-by h) (holds (take i rows)) (hold-of row ∷ []),
           spans-one (held-by h) row,
           m .resources-are i below,
           m .starts-are i below,
@@ -117,20 +118,22 @@ column-more figure column rows n all wide are row i below =
     refl)
     (λ e.
     let other = eqb-false i n e in
-    getD-set-other column n i (figure row) 0 other ∙ are i (omega (arith, other)) ∙ ap figure (sym (List·getD-append rows (row ∷ []) no-row i (omega (arith, other)))))
+    getD-set-other column n i (figure row) 0 other ∙ are i (omega (arith, other))
+    ∙ ap figure (sym (List·getD-append rows (row ∷ []) no-row i (omega (arith, other)))))
 
 pub mirror-none : {resources starts finishes : List ℕ} → Mirrors [] resources starts finishes 0
-mirror-none = record { all = refl; resources-are = λ i h. absurd (omega arith); starts-are = λ i h. absurd (omega arith); finishes-are = λ i h. absurd (omega arith) }
+mirror-none =
+    record { all = refl; resources-are = λ i h. absurd (omega arith); starts-are = λ i h. absurd (omega arith); finishes-are = λ i h. absurd (omega arith) }
 
 pub mirror-more :
     {rows : List Row} {resources starts finishes : List ℕ} {n : ℕ} →
     Mirrors rows resources starts finishes n → Widths resources starts finishes → n < room → (row : Row) →
-    Mirrors (rows ++ (row ∷ [])) (set resources n (key (resource row))) (set starts n (row .start)) (set finishes n (row .finish)) (suc n)
+    Mirrors (rows ++ (row ∷ [])) (set resources n (resource-number (resource row))) (set starts n (row .start)) (set finishes n (row .finish)) (suc n)
 mirror-more {rows} {resources} {starts} {finishes} {n} m w h row =
     let all = m .all in
     record {
       all = length-append rows (row ∷ []) ∙ omega arith;
-      resources-are = column-more (λ x. key (resource x)) resources rows n all (rw (w .resources-long) h) (m .resources-are) row;
+      resources-are = column-more (λ x. resource-number (resource x)) resources rows n all (rw (w .resources-long) h) (m .resources-are) row;
       starts-are = column-more (λ x. x .start) starts rows n all (rw (w .starts-long) h) (m .starts-are) row;
       finishes-are = column-more (λ x. x .finish) finishes rows n all (rw (w .finishes-long) h) (m .finishes-are) row;
     }
@@ -177,7 +180,7 @@ pub filled-more :
     Filled
     rows
     count
-    (set resources i (key (resource (getD rows i no-row))))
+    (set resources i (resource-number (resource (getD rows i no-row))))
     (set starts i (getD rows i no-row .start))
     (set finishes i (getD rows i no-row .finish))
     (suc i)

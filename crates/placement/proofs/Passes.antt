@@ -2,7 +2,8 @@
 use mathlib.Core.Path.{_≡_, refl, sym, ap, _∙_}
 use mathlib.Core.Bool.{Bool, true, false, cond, not}
 use mathlib.Core.Logic.{⊎-elim}
-use mathlib.Core.List.{List, [], _∷_, _++_, append-nil, List·Memᴰ, List·Memᴰ·head, List·Memᴰ·tail, List·Memᴰ·append-cases, List·Memᴰ·eq-of-singleton, List·Memᴰ·not-nil}
+use mathlib.Core.List.{List, [], _∷_, _++_, append-nil, List·Memᴰ, List·Memᴰ·head, List·Memᴰ·tail, List·Memᴰ·append-cases, List·Memᴰ·eq-of-singleton}
+use mathlib.Core.List.{List·Memᴰ·not-nil}
 use Prim.Native.Nat.{ℕ, zero, suc, pred, _+_, _-_, _≤_, _<_, max, min}
 use native.Mathlib.Nat.{add-zero, add-suc}
 use native.Mathlib.Omega.{arith}
@@ -126,7 +127,8 @@ back-over len (s ∷ spans) tick x a b f =
     (λ t. back-over len spans tick x a (leb-false (swept-back len spans tick) x t) (free-rest len s spans x f))
 
 -- a pass back that moves nothing meets nothing
-back-unmet : (len : ℕ) (spans : List Span) (tick : ℕ) → swept-back len spans tick ≡ tick → any-of (meets (record { start = tick; finish = tick + len })) spans ≡ false
+back-unmet : (len : ℕ) (spans : List Span) (tick : ℕ) → swept-back len spans tick ≡ tick →
+    any-of (meets (record { start = tick; finish = tick + len })) spans ≡ false
 back-unmet len [] tick e = refl
 back-unmet len (s ∷ spans) tick e =
     let rest = back-from len spans tick in
@@ -205,7 +207,8 @@ back-more rs starts finishes n k from len tick i lasting h sw =
     (λ e. record { within = omega arith; to-come = was ∙ append ∙ rw e refl; below = rw e low })
 
 pub back-bound :
-    (rs starts finishes : List ℕ) (n k len tick : ℕ) → Lasting starts finishes n → tick < tick-bound → swept-back len (spans-of k rs starts finishes n) tick < tick-bound
+    (rs starts finishes : List ℕ) (n k len tick : ℕ) → Lasting starts finishes n → tick < tick-bound →
+    swept-back len (spans-of k rs starts finishes n) tick < tick-bound
 back-bound rs starts finishes n k len from lasting h = go n (back-none rs starts finishes n k from len h)
   where
     go : (i : ℕ) {tick : ℕ} → SweptBack rs starts finishes n k from len tick i → swept-back len (spans-of k rs starts finishes n) from < tick-bound
@@ -214,15 +217,18 @@ back-bound rs starts finishes n k len from lasting h = go n (back-none rs starts
 
 -- entries of other resources are passed over
 skip-spans :
-    (k : ℕ) (rs starts finishes : List ℕ) (i d : ℕ) → ((j : ℕ) → i ≤ j → j < i + d → getD rs j 0 ≡ k → ⊥) → spans-of k rs starts finishes (i + d) ≡ spans-of k rs starts finishes i
+    (k : ℕ) (rs starts finishes : List ℕ) (i d : ℕ) → ((j : ℕ) → i ≤ j → j < i + d → getD rs j 0 ≡ k → ⊥) →
+    spans-of k rs starts finishes (i + d) ≡ spans-of k rs starts finishes i
 skip-spans k rs starts finishes i zero none = ap (spans-of k rs starts finishes) (add-zero i)
 skip-spans k rs starts finishes i (suc d) none =
     ap (spans-of k rs starts finishes) (add-suc i d)
-    ∙ ap (λ t. spans-of k rs starts finishes (i + d) ++ cons-if t (entry starts finishes (i + d)) []) (ne-eqb (getD rs (i + d) 0) k (none (i + d) (omega arith) (omega arith)))
+    ∙ ap (λ t. spans-of k rs starts finishes (i + d) ++ cons-if t (entry starts finishes (i + d)) [])
+    (ne-eqb (getD rs (i + d) 0) k (none (i + d) (omega arith) (omega arith)))
     ∙ append-nil (spans-of k rs starts finishes (i + d))
     ∙ skip-spans k rs starts finishes i d (λ j a b. none j a (omega arith))
 
-skipped : (k : ℕ) (rs starts finishes : List ℕ) (i r : ℕ) → i ≤ r → ((j : ℕ) → i ≤ j → j < r → getD rs j 0 ≡ k → ⊥) → spans-of k rs starts finishes r ≡ spans-of k rs starts finishes i
+skipped : (k : ℕ) (rs starts finishes : List ℕ) (i r : ℕ) → i ≤ r → ((j : ℕ) → i ≤ j → j < r → getD rs j 0 ≡ k → ⊥) →
+    spans-of k rs starts finishes r ≡ spans-of k rs starts finishes i
 skipped k rs starts finishes i r h none =
     let e : r ≡ i + (r - i) = omega arith in
     ap (spans-of k rs starts finishes) e ∙ skip-spans k rs starts finishes i (r - i) (λ j a b. none j a (omega arith))
@@ -245,7 +251,8 @@ module _ (rs starts finishes : List ℕ) (n k from len tick i r : ℕ) where
       }
 
 -- an entry of the resource
-pub at-own : (rs starts finishes : List ℕ) (k len tick i : ℕ) → getD rs i 0 ≡ k → at-entry rs starts finishes k len tick i ≡ beyond len (entry starts finishes i) tick
+pub at-own : (rs starts finishes : List ℕ) (k len tick i : ℕ) → getD rs i 0 ≡ k →
+    at-entry rs starts finishes k len tick i ≡ beyond len (entry starts finishes i) tick
 at-own rs starts finishes k len tick i e = rw (eq-eqb (getD rs i 0) k e) refl
 
 -- looking for the next entry, and for the one before
@@ -255,13 +262,15 @@ pub record Looked (key : ℕ) (rs : List ℕ) (count from i : ℕ) : Type 0 wher
   pub within : i ≤ count
   pub none : (j : ℕ) → from ≤ j → j < i → getD rs j 0 ≡ key → ⊥
 
-pub looked-more : (key : ℕ) (rs : List ℕ) (count from i : ℕ) → i < count → Looked key rs count from i → (getD rs i 0 ≡ key → ⊥) → Looked key rs count from (i + 1)
+pub looked-more : (key : ℕ) (rs : List ℕ) (count from i : ℕ) → i < count → Looked key rs count from i → (getD rs i 0 ≡ key → ⊥) →
+    Looked key rs count from (i + 1)
 looked-more key rs count from i h w e =
     let on = w .on in
     record {
       on = omega arith;
       within = omega arith;
-      none = λ j a b q. by-test (leb i j) (λ t. let l = leb-true i j t in let same : j ≡ i = omega arith in e (ap (λ n. getD rs n 0) (sym same) ∙ q)) (λ t. w .none j a (leb-false i j t) q);
+      none = λ j a b q. by-test (leb i j) (λ t. let l = leb-true i j t in let same : j ≡ i = omega arith in e (ap (λ n. getD rs n 0) (sym same) ∙ q))
+          (λ t. w .none j a (leb-false i j t) q);
     }
 
 pub record LookedBack (key : ℕ) (rs : List ℕ) (from below i : ℕ) : Type 0 where
@@ -269,18 +278,21 @@ pub record LookedBack (key : ℕ) (rs : List ℕ) (from below i : ℕ) : Type 0 
   pub within : i ≤ below
   pub none : (j : ℕ) → i ≤ j → j < below → getD rs j 0 ≡ key → ⊥
 
-pub back-looked-more : (key : ℕ) (rs : List ℕ) (from below i : ℕ) → from < i → LookedBack key rs from below i → (getD rs (i - 1) 0 ≡ key → ⊥) → LookedBack key rs from below (i - 1)
+pub back-looked-more : (key : ℕ) (rs : List ℕ) (from below i : ℕ) → from < i → LookedBack key rs from below i → (getD rs (i - 1) 0 ≡ key → ⊥) →
+    LookedBack key rs from below (i - 1)
 back-looked-more key rs from below i h w e =
     let within = w .within in
     record {
       down = omega arith;
       within = omega arith;
-      none = λ j a b q. by-test (leb i j) (λ t. w .none j (leb-true i j t) b q) (λ t. let l = leb-false i j t in let same : j ≡ i - 1 = omega arith in e (ap (λ n. getD rs n 0) (sym same) ∙ q));
+      none = λ j a b q. by-test (leb i j) (λ t. w .none j (leb-true i j t) b q)
+          (λ t. let l = leb-false i j t in let same : j ≡ i - 1 = omega arith in e (ap (λ n. getD rs n 0) (sym same) ∙ q));
     }
 
 -- no span among the columns ends at or past the bound, so no pass does
 pub swept-bound :
-    (rs starts finishes : List ℕ) (n k len tick : ℕ) → Lasting starts finishes n → tick < tick-bound → swept len (spans-of k rs starts finishes n) tick < tick-bound
+    (rs starts finishes : List ℕ) (n k len tick : ℕ) → Lasting starts finishes n → tick < tick-bound →
+    swept len (spans-of k rs starts finishes n) tick < tick-bound
 swept-bound rs starts finishes n k len tick lasting h = go n (omega arith)
   where
     go : (i : ℕ) → i ≤ n → swept len (spans-of k rs starts finishes i) tick < tick-bound

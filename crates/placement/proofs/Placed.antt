@@ -19,20 +19,24 @@ use Rattle.rules.specs.declared.Job.{Job}
 use Rattle.rules.specs.declared.Setup.{Setup}
 use Rattle.rules.specs.Sequences.{all-of}
 use Rattle.rules.specs.Words.{row-limit, most-tasks, messages-of, named}
-use Rattle.rules.specs.Placing.{is-task, books-task, no-row, task-row, machine-of, machine-for, placed, into, ready, next-task, Trial, trial-rows, costs, try, choice, Turn, over, misses, books, turn, Placing, booked, late, place-from, place}
+use Rattle.rules.specs.Placing.{is-task, books-task, no-row, task-row, machine-of, machine-for, placed, into, ready, next-task, Trial, trial-rows, costs, try}
+use Rattle.rules.specs.Placing.{choice, Turn, over, misses, books, turn, Placing, booked, late, place-from, place}
 use Rattle.rules.specs.Laws.{IsNext, IsKept}
 use Rattle.rules.specs.Bounds.{Sound, Between, Listed, task, message, RowInRange, largest-cost}
 use Rattle.rules.specs.Demands.{InRange}
-use Rattle.rules.proofs.Sequences.{by-test, clash, and-true, or-cases, or-right, any-append, all-mem, mem-keep, first-append, first-skip, first-mem, sum-append, getD-mem}
+use Rattle.rules.proofs.Sequences.{by-test, clash, and-true, or-cases, or-right, any-append, all-mem, mem-keep, first-append, first-skip, first-mem, sum-append}
+use Rattle.rules.proofs.Sequences.{getD-mem}
 use Rattle.rules.proofs.Choice.{next-is-next, choice-kept}
 use Rattle.rules.proofs.Inputs.{try-shape, booked-no-task}
 use Rattle.rules.proofs.Due.{progress-none}
 use Rattle.rules.proofs.AllPlaced.{choice-places}
 use Rattle.rules.proofs.Order.{in-range-count, in-range-messages, in-range-ends, in-range-volume}
-use Rattle.rules.proofs.Bounds.{InBounds, turn-in-bounds, task-figures, scheduling-figure}
+use Rattle.rules.proofs.Bounds.{listed-machine, InBounds, turn-in-bounds, task-figures}
 use Rattle.rules.proofs.Counted.{due-length}
+use Rattle.rules.specs.Placing.{on-rows}
 use Rattle.placement.specs.Columns.{room, Widths, Mirrors}
-use Rattle.placement.specs.Asked.{Numbered, on-machine, on-link, AskFill, AskOrder, Stands}
+use Rattle.placement.specs.Asked.{AskFill, AskOrder, StandsFor}
+use Rattle.rules.specs.Codes.{Numbered, on-machine, on-link}
 use Rattle.placement.specs.Trials.{reach, SenderAt, Used, AskInputs, AskChoice, Beside, IsTrial, AttemptBounds, ColumnsLeft}
 use Rattle.placement.specs.Placements.{most-own, none-placed, AskPlace, placing-of, PlacementIs}
 use Rattle.placement.specs.Appending.{AskAppend, Appended}
@@ -48,17 +52,11 @@ listed-numbered sound (task m t) =
     let most = sound .room in
     let high = m .last in
     on-machine (record { first = m .first; last = omega arith })
-listed-numbered sound (message a b x y) =
+listed-numbered sound (message a b x y links tasks) =
     let most = sound .room in
     let high = a .last in
     let top = b .last in
     on-link (record { source = record { first = a .first; last = omega arith }; target = record { first = b .first; last = omega arith } })
-
--- the machine of a row that books a task
-listed-machine : {s : Setup} {h : Holder} → Listed s h → Between 1 (s .table .machines) (machine-of h)
-unfolding machine-of
-listed-machine (task m t) = m
-listed-machine (message a b x y) = a
 
 pub costs-at-most : (s : Setup) (rows : List Row) → ((row : Row) → List·Memᴰ row rows → RowInRange s row) → costs rows ≤ length rows * largest-cost
 costs-at-most s [] h = omega arith
@@ -78,14 +76,15 @@ pub placing-late : (rows : List Row) (t : ℕ) → 1 ≤ t → placing-of t rows
 placing-late rows zero h = absurd (omega arith)
 placing-late rows (suc t) h = refl
 
-module _ (s : Setup) (clock : ℕ) (held : List Row) (count : ℕ) (j : Job) (ask : AskPlace s clock held count j) where
+module _ (s : Setup) (base : ℕ) (held : List Row) (count : ℕ) (j : Job) (ask : AskPlace s base held count j) where
   abbrev H : List Row
   H = take count held
 
   abbrev range : InRange s j
   range = ask .in-range
 
-  pub ask-fill : {jobs resources starts finishes : List ℕ} → length held ≡ row-limit → length jobs ≡ row-limit → Widths resources starts finishes → AskFill held count jobs resources starts finishes
+  pub ask-fill : {jobs resources starts finishes : List ℕ} → length held ≡ row-limit → length jobs ≡ row-limit → Widths resources starts finishes →
+      AskFill held count jobs resources starts finishes
   ask-fill long jobs-long widths =
       let few = ask .count-at-most in
       record {
@@ -104,8 +103,8 @@ module _ (s : Setup) (clock : ℕ) (held : List Row) (count : ℕ) (j : Job) (as
   pub ask-order : AskOrder j
   ask-order = record { tasks = in-range-count s j range .1; messages = in-range-messages s j range; ends = in-range-ends s j range }
 
-  pub released-first : Released j clock (replicate most-tasks 0) (clock + j .scheduling) 0
-  released-first = released-none j (ask .clock-at-most) (scheduling-figure s j range) (in-range-count s j range .1)
+  pub released-first : Released j base (replicate most-tasks 0) base 0
+  released-first = released-none j (ask .base-at-most) (in-range-count s j range .1)
 
   -- what holds before each turn
   pub record Placing-so-far (machines done resources starts finishes : List ℕ) (own : Placement) (turns : ℕ) : Type 0 where
@@ -118,9 +117,9 @@ module _ (s : Setup) (clock : ℕ) (held : List Row) (count : ℕ) (j : Job) (as
     pub count-at-most : own .count ≤ most-own
     pub cost-is : own .cost ≡ costs (take (own .count) (own .rows))
     pub mirrors : Mirrors (H ++ take (own .count) (own .rows)) resources starts finishes (count + own .count)
-    pub stands : Stands (take (own .count) (own .rows)) machines done
+    pub stands : StandsFor (take (own .count) (own .rows)) machines done
     pub in-bounds : InBounds s j range (ask .sound) (take (own .count) (own .rows))
-    pub rest : place s clock H j ≡ place-from s clock H j (j .taskcount - turns) (take (own .count) (own .rows))
+    pub rest : place s (on-rows base H) j ≡ place-from s (on-rows base H) j (j .taskcount - turns) (take (own .count) (own .rows))
 
   -- before the first turn
   pub so-far-none :
@@ -145,7 +144,7 @@ module _ (s : Setup) (clock : ℕ) (held : List Row) (count : ℕ) (j : Job) (as
           finish-is = λ t a b h. clash h refl;
         };
         in-bounds = record { is-due = progress-none s j; in-range = λ row n. absurd (List·Memᴰ·not-nil n) };
-        rest = ap (λ k. place-from s clock H j k []) (sym (sub-zero (j .taskcount)));
+        rest = ap (λ k. place-from s (on-rows base H) j k []) (sym (sub-zero (j .taskcount)));
       }
 
   -- One turn of the rules.
@@ -154,27 +153,29 @@ module _ (s : Setup) (clock : ℕ) (held : List Row) (count : ℕ) (j : Job) (as
   with-trial t o = elim o [ none ↦ misses t | some trial ↦ books t trial ]
 
   abbrev with-task : List Row → Option ℕ → Turn
-  with-task new o = elim o [ none ↦ over | some t ↦ with-trial t (choice s clock H j new t) ]
+  with-task new o = elim o [ none ↦ over | some t ↦ with-trial t (choice s (on-rows base H) j new t) ]
 
   abbrev after-turn : ℕ → List Row → Turn → Placing
   after-turn k new x =
-      elim x [ over ↦ booked new | misses t ↦ late t | books t trial ↦ place-from s clock H j k (new ++ trial-rows trial) ]
+      elim x [ over ↦ booked new | misses t ↦ late t | books t trial ↦ place-from s (on-rows base H) j k (new ++ trial-rows trial) ]
 
-  turn-over : (new : List Row) (k : ℕ) → next-task j new ≡ none → place-from s clock H j (suc k) new ≡ booked new
+  turn-over : (new : List Row) (k : ℕ) → next-task j new ≡ none → place-from s (on-rows base H) j (suc k) new ≡ booked new
   unfolding place-from turn
   turn-over new k e = ap (λ o. after-turn k new (with-task new o)) e
 
-  turn-misses : (new : List Row) (k t : ℕ) → next-task j new ≡ some t → choice s clock H j new t ≡ none → place-from s clock H j (suc k) new ≡ late t
+  turn-misses : (new : List Row) (k t : ℕ) → next-task j new ≡ some t → choice s (on-rows base H) j new t ≡ none →
+      place-from s (on-rows base H) j (suc k) new ≡ late t
   unfolding place-from turn
   turn-misses new k t e c = ap (λ o. after-turn k new (with-task new o)) e ∙ ap (λ o. after-turn k new (with-trial t o)) c
 
   turn-books :
-      (new : List Row) (k t : ℕ) (trial : Trial) → next-task j new ≡ some t → choice s clock H j new t ≡ some trial →
-      place-from s clock H j (suc k) new ≡ place-from s clock H j k (new ++ trial-rows trial)
+      (new : List Row) (k t : ℕ) (trial : Trial) → next-task j new ≡ some t → choice s (on-rows base H) j new t ≡ some trial →
+      place-from s (on-rows base H) j (suc k) new ≡ place-from s (on-rows base H) j k (new ++ trial-rows trial)
   unfolding place-from turn
   turn-books new k t trial e c = ap (λ o. after-turn k new (with-task new o)) e ∙ ap (λ o. after-turn k new (with-trial t o)) c
 
-  module _ {machines done resources starts finishes : List ℕ} {own : Placement} {turns : ℕ} (p : Placing-so-far machines done resources starts finishes own turns) where
+  module _ {machines done resources starts finishes : List ℕ} {own : Placement} {turns : ℕ}
+      (p : Placing-so-far machines done resources starts finishes own turns) where
     abbrev new : List Row
     new = take (own .count) (own .rows)
 
@@ -237,7 +238,8 @@ module _ (s : Setup) (clock : ℕ) (held : List Row) (count : ℕ) (j : Job) (as
             done = rw (← p .stands .finish-is (msg .sender) low (omega arith) there) (row .ends);
           }
 
-      pub ask-inputs : {release : ℕ} → release ≤ reach 0 → (m : ℕ) → Between 1 (s .table .machines) m → AskInputs s j machines done t m release resources starts finishes used
+      pub ask-inputs : {release : ℕ} → release ≤ reach 0 → (m : ℕ) → Between 1 (s .table .machines) m →
+          AskInputs s j machines done t m release resources starts finishes used
       ask-inputs low m on = record {
         sound = ask .sound;
         order = ask-order;
@@ -277,51 +279,53 @@ module _ (s : Setup) (clock : ℕ) (held : List Row) (count : ℕ) (j : Job) (as
 
     -- The three ways that a turn goes.
 
-    pub turn-none : next-task j new ≡ none → turns < j .taskcount → PlacementIs s clock held count j own
+    pub turn-none : next-task j new ≡ none → turns < j .taskcount → PlacementIs s base held count j own
     turn-none e h =
         let left : j .taskcount - turns ≡ suc (j .taskcount - suc turns) = omega arith in
         record {
-          is = rw (p .not-late) (sym (p .rest ∙ ap (λ k. place-from s clock H j k new) left ∙ turn-over new (j .taskcount - suc turns) e));
+          is = rw (p .not-late) (sym (p .rest ∙ ap (λ k. place-from s (on-rows base H) j k new) left ∙ turn-over new (j .taskcount - suc turns) e));
           count-at-most = p .count-at-most;
           long = p .long;
           cost-is = p .cost-is;
         }
 
-    pub turn-late : {t : ℕ} → next-task j new ≡ some t → choice s clock H j new t ≡ none → turns < j .taskcount → PlacementIs s clock held count j (none-placed t)
+    pub turn-late : {t : ℕ} → next-task j new ≡ some t → choice s (on-rows base H) j new t ≡ none → turns < j .taskcount →
+        PlacementIs s base held count j (none-placed t)
     unfolding none-placed
     turn-late {t} e c h =
         let left : j .taskcount - turns ≡ suc (j .taskcount - suc turns) = omega arith in
         let low = next-is-next j new t e .is-task .first in
         let missing : placing-of t [] ≡ late t = placing-late [] t low in
         record {
-          is = missing ∙ sym (p .rest ∙ ap (λ k. place-from s clock H j k new) left ∙ turn-misses new (j .taskcount - suc turns) t e c);
+          is = missing ∙ sym (p .rest ∙ ap (λ k. place-from s (on-rows base H) j k new) left ∙ turn-misses new (j .taskcount - suc turns) t e c);
           count-at-most = omega arith;
           long = length-replicate most-own no-row;
           cost-is = refl;
         }
 
-    pub all-turns : j .taskcount ≤ turns → PlacementIs s clock held count j own
+    pub all-turns : j .taskcount ≤ turns → PlacementIs s base held count j own
     unfolding place-from
     all-turns h =
         let left : j .taskcount - turns ≡ 0 = omega arith in
         record {
-          is = rw (p .not-late) (sym (p .rest ∙ ap (λ k. place-from s clock H j k new) left));
+          is = rw (p .not-late) (sym (p .rest ∙ ap (λ k. place-from s (on-rows base H) j k new) left));
           count-at-most = p .count-at-most;
           long = p .long;
           cost-is = p .cost-is;
         }
 
     -- the trial that is kept
-    module _ {t : ℕ} (m : ℕ) {best : Attempt} (is-next : next-task j new ≡ some t) (kept : choice s clock H j new t ≡ some (try s clock H j new t m))
-        (it : IsTrial (try s clock H j new t m) best) (bounds : AttemptBounds best) where
+    module _ {t : ℕ} (m : ℕ) {best : Attempt} (is-next : next-task j new ≡ some t)
+        (kept : choice s (on-rows base H) j new t ≡ some (try s (on-rows base H) j new t m))
+        (it : IsTrial (try s (on-rows base H) j new t m) best) (bounds : AttemptBounds best) where
       abbrev trial : Trial
-      trial = try s clock H j new t m
+      trial = try s (on-rows base H) j new t m
 
       abbrev more : List Row
       more = take (best .count) (best .rows)
 
-      is-kept : (k : ℕ) × (trial ≡ try s clock H j new t k) × IsKept s clock H j new t k
-      is-kept = choice-kept s clock H j new t trial kept
+      is-kept : (k : ℕ) × (trial ≡ try s (on-rows base H) j new t k) × IsKept s (on-rows base H) j new t k
+      is-kept = choice-kept s (on-rows base H) j new t trial kept
 
       -- its machine is one of the table's
       pub kept-machine : Between 1 (s .table .machines) m
@@ -335,7 +339,7 @@ module _ (s : Setup) (clock : ℕ) (held : List Row) (count : ℕ) (j : Job) (as
       in-bounds-more =
           rw
           (is-kept .1)
-          (turn-in-bounds s j range (ask .sound) clock H new t (is-kept .0) (next-is-next j new t is-next) (is-kept .2) (p .in-bounds))
+          (turn-in-bounds s j range (ask .sound) (on-rows base H) new t (is-kept .0) (next-is-next j new t is-next) (is-kept .2) (p .in-bounds))
 
       new-length : length new ≡ own .count
       new-length = let long = p .long in let few = p .count-at-most in length-take-le (own .count) (own .rows) (omega arith)
@@ -386,7 +390,7 @@ module _ (s : Setup) (clock : ℕ) (held : List Row) (count : ℕ) (j : Job) (as
       own-row : task-row (new ++ trial-rows trial) t ≡ trial .own
       unfolding is-task
       own-row =
-          let shape = try-shape s clock H j new t m in
+          let shape = try-shape s (on-rows base H) j new t m in
           let here : books-task t (trial .own) ≡ true = rw (shape .own) (eq-eqb t t refl) in
           rw (
             first-skip no-row (books-task t) new (trial-rows trial) (unplaced is-next),
@@ -397,9 +401,9 @@ module _ (s : Setup) (clock : ℕ) (held : List Row) (count : ℕ) (j : Job) (as
 
       own-machine : machine-for (new ++ trial-rows trial) t ≡ m
       unfolding machine-of
-      own-machine = rw (own-row, try-shape s clock H j new t m .own) refl
+      own-machine = rw (own-row, try-shape s (on-rows base H) j new t m .own) refl
 
-      stands-more : Stands (new ++ trial-rows trial) (set machines (t - 1) m) (set done (t - 1) (best .finish))
+      stands-more : StandsFor (new ++ trial-rows trial) (set machines (t - 1) m) (set done (t - 1) (best .finish))
       stands-more =
           let is = next-is-next j new t is-next .is-task in
           let low = is .first in
@@ -408,7 +412,7 @@ module _ (s : Setup) (clock : ℕ) (held : List Row) (count : ℕ) (j : Job) (as
           let at : t - 1 < length machines = let l = p .machines-long in omega arith in
           let at-done : t - 1 < length done = let l = p .done-long in omega arith in
           let places : (u : ℕ) → placed (new ++ trial-rows trial) u ≡ placed new u || eqb t u
-          = λ u. any-append (books-task u) new (trial-rows trial) ∙ ap (λ x. placed new u || x) (choice-places s clock H j new t trial kept u) in
+          = λ u. any-append (books-task u) new (trial-rows trial) ∙ ap (λ x. placed new u || x) (choice-places s (on-rows base H) j new t trial kept u) in
           let other : (u : ℕ) → 1 ≤ u → (t ≡ u → ⊥) → u - 1 ≢ t - 1 = λ u a ne. omega (arith, ne) in
           record {
             placed-is =
@@ -494,5 +498,5 @@ module _ (s : Setup) (clock : ℕ) (held : List Row) (count : ℕ) (j : Job) (as
                 let left-now : j .taskcount - turns ≡ suc (j .taskcount - suc turns) = omega arith in
                 rw
                 rows-now
-                (p .rest ∙ ap (λ k. place-from s clock H j k new) left-now ∙ turn-books new (j .taskcount - suc turns) t trial is-next kept);
+                (p .rest ∙ ap (λ k. place-from s (on-rows base H) j k new) left-now ∙ turn-books new (j .taskcount - suc turns) t trial is-next kept);
           }

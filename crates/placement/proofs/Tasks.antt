@@ -21,8 +21,10 @@ use Rattle.rules.specs.Placing.{placed, ready, next-task, release}
 use Rattle.rules.proofs.Sequences.{by-test, keep-append, sum-append, getD-mem}
 use Rattle.rules.proofs.Choice.{false-precedes, lower-precedes}
 use Rattle.rules.proofs.Indexed.{task-at, no-message, message-at}
+use Rattle.rules.specs.Placing.{on-rows}
 use Rattle.placement.proofs.Foremost.{later, foremost-more, keep-next, keep-passing, keep-failing}
-use Rattle.placement.specs.Asked.{AskOrder, Stands, WaitingIs}
+use Rattle.placement.specs.Asked.{AskOrder, StandsFor, WaitingIs}
+use Rattle.placement.specs.Trials.{reach}
 
 -- Which tasks wait: message by message.
 
@@ -40,7 +42,7 @@ pub record Waited (j : Job) (machines finishes : List ℕ) (waits : List Bool) (
   pub messages-long : length (j .messages) ≡ most-messages
   pub long : length waits ≡ most-tasks
   pub is :
-      (new : List Row) → Stands new machines finishes → (t : ℕ) → IsTask j t →
+      (new : List Row) → StandsFor new machines finishes → (t : ℕ) → IsTask j t →
       getD waits (t - 1) false ≡ not (all-placed new t (take i (j .messages)))
 
 pub waited-none :
@@ -73,7 +75,8 @@ module _ {j : Job} {machines finishes : List ℕ} {waits : List Bool} {i : ℕ} 
     pub receiver-within : (1 ≤ message-at j i .receiver) × (message-at j i .receiver ≤ most-tasks)
     receiver-within = let is = ends .1 in (is .first, omega arith)
 
-    sender-placed : (new : List Row) → Stands new machines finishes → placed new (message-at j i .sender) ≡ ltb 0 (getD machines (message-at j i .sender - 1) 0)
+    sender-placed : (new : List Row) → StandsFor new machines finishes →
+        placed new (message-at j i .sender) ≡ ltb 0 (getD machines (message-at j i .sender - 1) 0)
     sender-placed new stands = stands .placed-is (message-at j i .sender) (sender-within .0) (sender-within .1)
 
     one-more :
@@ -131,7 +134,7 @@ pub record Best (j : Job) (machines finishes : List ℕ) (best deadline t : ℕ)
   pub within : t ≤ j .taskcount
   pub among : best ≤ t
   pub its : (best ≡ 0 → ⊥) → deadline ≡ task-of j best .deadline
-  pub is-best : (new : List Row) → Stands new machines finishes → named best ≡ foremost (figures j) (keep (ready j new) (numbers 1 t))
+  pub is-best : (new : List Row) → StandsFor new machines finishes → named best ≡ foremost (figures j) (keep (ready j new) (numbers 1 t))
 
 pub best-none : (j : Job) (machines finishes : List ℕ) → Best j machines finishes 0 0 0
 unfolding foremost
@@ -143,7 +146,7 @@ next-some {t = suc t} ne = refl
 
 -- whether the task after the first t is placed
 placed-next :
-    {new : List Row} {machines finishes : List ℕ} → Stands new machines finishes → (t : ℕ) → t < most-tasks →
+    {new : List Row} {machines finishes : List ℕ} → StandsFor new machines finishes → (t : ℕ) → t < most-tasks →
     placed new (t + 1) ≡ ltb 0 (getD machines t 0)
 placed-next {machines = machines} stands t h =
     let same : t + 1 - 1 ≡ t = omega arith in
@@ -156,14 +159,14 @@ no-earlier :
 no-earlier j t best h k = false-precedes _ _ _ _ k (λ e. false-precedes (t + 1) best [] [] (omega arith) (λ q. absurd (omega arith)))
 
 module _ {j : Job} {machines finishes : List ℕ} {best deadline t : ℕ} (sofar : Best j machines finishes best deadline t) where
-  pub best-found : j .taskcount ≤ t → (new : List Row) → Stands new machines finishes → named best ≡ next-task j new
+  pub best-found : j .taskcount ≤ t → (new : List Row) → StandsFor new machines finishes → named best ≡ next-task j new
   unfolding next-task
   best-found all new stands =
       let same : t ≡ j .taskcount = omega arith in
       sofar .is-best new stands ∙ ap (λ n. foremost (figures j) (keep (ready j new) (numbers 1 n))) same
 
   module _ (ask : AskOrder j) (more : t < j .taskcount) where
-    best-unready : ((new : List Row) → Stands new machines finishes → ready j new (t + 1) ≡ false) → Best j machines finishes best deadline (t + 1)
+    best-unready : ((new : List Row) → StandsFor new machines finishes → ready j new (t + 1) ≡ false) → Best j machines finishes best deadline (t + 1)
     best-unready known =
         record {
           within = omega arith;
@@ -178,7 +181,7 @@ module _ {j : Job} {machines finishes : List ℕ} {best deadline t : ℕ} (sofar
         best-unready (λ new stands. rw (placed-next stands t (omega arith) ∙ lt-ltb 0 (getD machines t 0) (omega (arith, ne))) refl)
 
     module _ {waits : List Bool} (waiting : WaitingIs j machines finishes waits) where
-      waits-next : (new : List Row) → Stands new machines finishes → getD waits t false ≡ not (all-placed new (t + 1) (messages-of j))
+      waits-next : (new : List Row) → StandsFor new machines finishes → getD waits t false ≡ not (all-placed new (t + 1) (messages-of j))
       waits-next new stands =
           let same : t + 1 - 1 ≡ t = omega arith in
           ap (λ i. getD waits i false) (sym same) ∙ waiting .is new stands (t + 1) (record { first = omega arith; last = omega arith })
@@ -188,14 +191,14 @@ module _ {j : Job} {machines finishes : List ℕ} {best deadline t : ℕ} (sofar
       best-waits e = best-unready (λ new stands. rw (not-true (all-placed new (t + 1) (messages-of j)) (sym (waits-next new stands) ∙ e), and-false) refl)
 
       module _ (unplaced : getD machines t 0 ≡ 0) (goes : getD waits t false ≡ false) where
-        is-ready : (new : List Row) → Stands new machines finishes → ready j new (t + 1) ≡ true
+        is-ready : (new : List Row) → StandsFor new machines finishes → ready j new (t + 1) ≡ true
         unfolding ready
         is-ready new stands =
             let own = placed-next stands t (omega arith) ∙ le-ltb 0 (getD machines t 0) (omega arith) in
             rw (own, not-false (all-placed new (t + 1) (messages-of j)) (sym (waits-next new stands) ∙ goes)) refl
 
         with-more :
-            (new : List Row) → Stands new machines finishes →
+            (new : List Row) → StandsFor new machines finishes →
             foremost (figures j) (keep (ready j new) (numbers 1 (t + 1))) ≡ some (later (figures j) (t + 1) (named best))
         with-more new stands =
             rw
@@ -295,14 +298,15 @@ stands-at machines t = ltb 0 (getD machines (t - 1) 0)
 abbrev dispatch-of : Job → ℕ → ℕ
 dispatch-of j t = task-of j t .dispatch
 
--- the floor so far: the clock, the scheduling time, and the dispatch times of the tasks placed
-pub record Released (j : Job) (clock : ℕ) (machines : List ℕ) (floor turns : ℕ) : Type 0 where
-  pub is : floor ≡ clock + j .scheduling + sum-up-to (dispatch-of j) (stands-at machines) (j .taskcount)
+-- the floor so far: the base, and the dispatch times of the tasks placed
+pub record Released (j : Job) (base : ℕ) (machines : List ℕ) (floor turns : ℕ) : Type 0 where
+  pub is : floor ≡ base + sum-up-to (dispatch-of j) (stands-at machines) (j .taskcount)
   pub at-most : floor ≤ horizon + largest-time * (turns + 1)
 
-pub released-none : (j : Job) {clock : ℕ} → clock ≤ horizon → j .scheduling ≤ largest-time → j .taskcount ≤ most-tasks → Released j clock (replicate most-tasks 0) (clock + j .scheduling) 0
-released-none j low least few =
-    let none = sum-none (dispatch-of j) (stands-at (replicate most-tasks 0)) (j .taskcount) (λ k a b. ap (ltb 0) (getD-replicate {A = ℕ} most-tasks (k - 1) 0 0 (omega arith))) in
+pub released-none : (j : Job) {base : ℕ} → base ≤ horizon + largest-time → j .taskcount ≤ most-tasks → Released j base (replicate most-tasks 0) base 0
+released-none j low few =
+    let none = sum-none (dispatch-of j) (stands-at (replicate most-tasks 0)) (j .taskcount)
+    (λ k a b. ap (ltb 0) (getD-replicate {A = ℕ} most-tasks (k - 1) 0 0 (omega arith))) in
     record { is = rw none (omega arith); at-most = omega arith }
 
 -- what the turn of a task asks: it is listed, its dispatch time is in range, and it has no machine yet
@@ -312,13 +316,14 @@ pub record TurnOf (j : Job) (machines : List ℕ) (t : ℕ) : Type 0 where
   pub short : task-of j t .dispatch ≤ largest-time
   pub vacant : getD machines (t - 1) 0 ≡ 0
 
-module _ {j : Job} {clock : ℕ} {machines : List ℕ} {floor turns t : ℕ} (sofar : Released j clock machines floor turns) (turn : TurnOf j machines t) where
-  pub release-low : turns < j .taskcount → floor + task-of j t .dispatch ≤ 1_020_000_000
+module _ {j : Job} {base : ℕ} {machines : List ℕ} {floor turns t : ℕ} (sofar : Released j base machines floor turns) (turn : TurnOf j machines t) where
+  pub release-low : turns < j .taskcount → floor + task-of j t .dispatch ≤ reach 0
   release-low more = let most = sofar .at-most in let few = turn .few in omega (arith, turn .short)
 
-  pub release-now : {finishes : List ℕ} (new : List Row) → Stands new machines finishes → floor + task-of j t .dispatch ≡ release clock j new t
+  pub release-now : {finishes : List ℕ} (held new : List Row) → StandsFor new machines finishes →
+      floor + task-of j t .dispatch ≡ release (on-rows base held) j new t
   unfolding release
-  release-now new stands =
+  release-now held new stands =
       let few = turn .few in
       let same = sum-same (dispatch-of j) (stands-at machines) (placed new) (j .taskcount) (λ k a b. sym (stands .placed-is k a (omega arith))) in
       let is = sofar .is in
@@ -327,7 +332,7 @@ module _ {j : Job} {clock : ℕ} {machines : List ℕ} {floor turns t : ℕ} (so
   -- the task is placed
   pub released-more :
       {m : ℕ} → length machines ≡ most-tasks → 1 ≤ m →
-      Released j clock (set machines (t - 1) m) (floor + task-of j t .dispatch) (turns + 1)
+      Released j base (set machines (t - 1) m) (floor + task-of j t .dispatch) (turns + 1)
   released-more {m} long positive =
       let low = turn .listed .first in
       let high = turn .listed .last in

@@ -8,7 +8,7 @@ use Rattle.rules.specs.Words.{most-messages}
 use Rattle.rules.specs.Placing.{no-row, late}
 use Rattle.rules.specs.Bounds.{largest-cost}
 use Rattle.placement.specs.Columns.{room, Widths, Mirrors}
-use Rattle.placement.specs.Asked.{Numbered}
+use Rattle.rules.specs.Codes.{Numbered}
 use Rattle.placement.specs.Trials.{AttemptBounds}
 use Rattle.placement.specs.declared.Attempt.{Attempt}
 use Rattle.placement.specs.declared.place.Placement.{Placement}
@@ -24,7 +24,8 @@ pub record AskAppend (own : Placement) (tried : Attempt) (resources starts finis
   pub numbered : (i : ℕ) → i < tried .count → Numbered (getD (tried .rows) i no-row .holder)
 
 -- the rows of the trial follow those of the job, and their spans those used
-pub record Appended (own : Placement) (tried : Attempt) (resources starts finishes : List ℕ) (used : ℕ) (resources′ starts′ finishes′ : List ℕ) (r : Placement) : Type 0 where
+pub record Appended (own : Placement) (tried : Attempt) (resources starts finishes : List ℕ) (used : ℕ) (resources′ starts′ finishes′ : List ℕ)
+    (r : Placement) : Type 0 where
   pub not-late : r .late ≡ 0
   pub count-is : r .count ≡ own .count + tried .count
   pub cost-is : r .cost ≡ own .cost + tried .cost

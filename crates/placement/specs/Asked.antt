@@ -5,8 +5,6 @@ use mathlib.Core.List.{List}
 use Prim.Native.Nat.{ℕ, _-_, _≤_, _<_}
 use lib.Dec.{ltb}
 use lib.ListN.{length, getD}
-use Rattle.rules.specs.declared.Holder.{Holder}
-use Rattle.rules.specs.declared.Holder.the-variants.{TaskOn, MessageOn}
 use Rattle.rules.specs.declared.Row.{Row}
 use Rattle.rules.specs.declared.Message.{Message}
 use Rattle.rules.specs.declared.Job.{Job}
@@ -17,6 +15,7 @@ use Rattle.rules.specs.Asked.{HasMachine, HasLink}
 use Rattle.rules.specs.Placing.{placed, into, task-row, machine-for, no-row}
 use Rattle.rules.specs.Laws.{IsTask, EndsListed}
 use Rattle.rules.specs.Bounds.{Sound}
+use Rattle.rules.specs.Codes.{Numbered}
 use Rattle.placement.specs.Columns.{tick-bound, Widths}
 
 -- Rows.
@@ -38,11 +37,6 @@ pub record AskMessageRow (s : Setup) (msg : Message) (a b start : ℕ) : Type 0 
 
 -- Columns.
 
--- the machines of a holder are within what a table has room for
-pub data Numbered : Holder → Type 0 where
-  on-machine : {m t : ℕ} → HasMachine m → Numbered (TaskOn m t)
-  on-link : {a b x y : ℕ} → HasLink a b → Numbered (MessageOn a b x y)
-
 pub record AskFill (rows : List Row) (count : ℕ) (jobs resources starts finishes : List ℕ) : Type 0 where
   pub count-at-most : count ≤ row-limit
   pub jobs-long : length jobs ≡ row-limit
@@ -58,7 +52,7 @@ pub record AskOrder (j : Job) : Type 0 where
   pub ends : EndsListed j
 
 -- what a Standing says of the rows booked so far
-pub record Stands (new : List Row) (machines finishes : List ℕ) : Type 0 where
+pub record StandsFor (new : List Row) (machines finishes : List ℕ) : Type 0 where
   pub placed-is : (t : ℕ) → 1 ≤ t → t ≤ most-tasks → placed new t ≡ ltb 0 (getD machines (t - 1) 0)
   pub machine-is : (t : ℕ) → 1 ≤ t → t ≤ most-tasks → placed new t ≡ true → machine-for new t ≡ getD machines (t - 1) 0
   pub finish-is : (t : ℕ) → 1 ≤ t → t ≤ most-tasks → placed new t ≡ true → task-row new t .finish ≡ getD finishes (t - 1) 0
@@ -67,5 +61,5 @@ pub record Stands (new : List Row) (machines finishes : List ℕ) : Type 0 where
 pub record WaitingIs (j : Job) (machines finishes : List ℕ) (waits : List Bool) : Type 0 where
   pub long : length waits ≡ most-tasks
   pub is :
-      (new : List Row) → Stands new machines finishes → (t : ℕ) → IsTask j t →
+      (new : List Row) → StandsFor new machines finishes → (t : ℕ) → IsTask j t →
       getD waits (t - 1) false ≡ not (all-of (λ msg. placed new (msg .sender)) (into j t))

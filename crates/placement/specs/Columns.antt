@@ -1,18 +1,14 @@
 -- Between functions: booked spans as three columns of numbers, resource, start and finish.
 use mathlib.Core.Path.{_≡_}
 use mathlib.Core.List.{List, [], _++_}
-use Prim.Native.Nat.{ℕ, zero, suc, _+_, _*_, _^_, _≤_, _<_}
+use Prim.Native.Nat.{ℕ, zero, suc, _+_, _^_, _≤_, _<_}
 use lib.Dec.{eqb}
 use lib.ListN.{length, getD}
 use Rattle.rules.specs.Sequences.{cons-if}
-use Rattle.rules.specs.Words.{Span, Resource, machine, link, most-machines, most-tasks, most-messages, resource, row-limit}
+use Rattle.rules.specs.Words.{Span, most-tasks, most-messages, resource, row-limit}
+use Rattle.rules.specs.Codes.{resource-number}
 use Rattle.rules.specs.Placing.{no-row}
 use Rattle.rules.specs.declared.Row.{Row}
-
--- the number of a resource: a machine's own, and for link a to b one past all machines' and those of other links
-unfoldable pub key : Resource → ℕ
-key (machine m) = m
-key (link a b) = a * (most-machines + 1) + b
 
 -- entry i of the columns
 abbrev pub entry : (starts finishes : List ℕ) → ℕ → Span
@@ -54,7 +50,7 @@ pub record Searchable (starts finishes : List ℕ) (n from len : ℕ) : Type 0 w
 -- the first n entries are those of the rows, in their order
 pub record Mirrors (rows : List Row) (resources starts finishes : List ℕ) (n : ℕ) : Type 0 where
   pub all : length rows ≡ n
-  pub resources-are : (i : ℕ) → i < n → getD resources i 0 ≡ key (resource (getD rows i no-row))
+  pub resources-are : (i : ℕ) → i < n → getD resources i 0 ≡ resource-number (resource (getD rows i no-row))
   pub starts-are : (i : ℕ) → i < n → getD starts i 0 ≡ getD rows i no-row .start
   pub finishes-are : (i : ℕ) → i < n → getD finishes i 0 ≡ getD rows i no-row .finish
 

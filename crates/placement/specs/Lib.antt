@@ -1,7 +1,7 @@
--- What the contracts of `placement` cite beside the rules: columns of spans, chains through them, and what each function asks of its caller.
+-- What the contracts of `placement` cite beside the rules: columns of spans, threads through them, and what each function asks of its caller.
 pub mod Columns
 pub mod Passes
-pub mod Chains
+pub mod Threads
 pub mod Asked
 pub mod Trials
 pub mod Placements

@@ -1,4 +1,4 @@
--- What placing a whole job asks and gives. Offered to the crate `reservation`.
+-- Between functions: what placing a whole job asks and gives, offered to the crate `reservation`.
 use mathlib.Core.Path.{_≡_}
 use mathlib.Core.List.{List, List·Memᴰ}
 use Prim.Native.Nat.{ℕ, zero, suc, _+_, _≤_}
@@ -6,10 +6,11 @@ use lib.ListN.{length, take, replicate}
 use Rattle.rules.specs.declared.Row.{Row}
 use Rattle.rules.specs.declared.Job.{Job}
 use Rattle.rules.specs.declared.Setup.{Setup}
-use Rattle.rules.specs.Words.{horizon, row-limit, most-tasks, most-messages}
+use Rattle.rules.specs.Words.{horizon, largest-time, row-limit, most-tasks, most-messages}
 use Rattle.rules.specs.Placing.{no-row, costs, Placing, booked, late, place}
 use Rattle.rules.specs.Bounds.{Sound, RowInRange}
 use Rattle.rules.specs.Demands.{InRange}
+use Rattle.rules.specs.Placing.{on-rows}
 use Rattle.placement.specs.Columns.{Widths, Mirrors}
 use Rattle.placement.specs.declared.place.Placement.{Placement}
 
@@ -22,9 +23,9 @@ none-placed t = record { late = t; count = 0; cost = 0; rows = replicate most-ow
 
 -- Placing.
 
-pub record AskPlace (s : Setup) (clock : ℕ) (held : List Row) (count : ℕ) (j : Job) : Type 0 where
+pub record AskPlace (s : Setup) (base : ℕ) (held : List Row) (count : ℕ) (j : Job) : Type 0 where
   pub sound : Sound s
-  pub clock-at-most : clock ≤ horizon
+  pub base-at-most : base ≤ horizon + largest-time
   pub count-at-most : count ≤ row-limit
   pub rows-in-range : (row : Row) → List·Memᴰ row (take count held) → RowInRange s row
   pub in-range : InRange s j
@@ -34,22 +35,22 @@ abbrev pub placing-of : (late : ℕ) → List Row → Placing
 placing-of zero rows = booked rows
 placing-of (suc t) rows = late (suc t)
 
-pub record PlacementIs (s : Setup) (clock : ℕ) (held : List Row) (count : ℕ) (j : Job) (r : Placement) : Type 0 where
-  pub is : placing-of (r .late) (take (r .count) (r .rows)) ≡ place s clock (take count held) j
+pub record PlacementIs (s : Setup) (base : ℕ) (held : List Row) (count : ℕ) (j : Job) (r : Placement) : Type 0 where
+  pub is : placing-of (r .late) (take (r .count) (r .rows)) ≡ place s (on-rows base (take count held)) j
   pub count-at-most : r .count ≤ most-own
   pub long : length (r .rows) ≡ most-own
   pub cost-is : r .cost ≡ costs (take (r .count) (r .rows))
 
 -- Placing reads the columns of the held rows, and no row.
 
-pub record AskPlaceAmong (s : Setup) (clock : ℕ) (j : Job) (resources starts finishes : List ℕ) (count : ℕ) : Type 0 where
+pub record AskPlaceAmong (s : Setup) (base : ℕ) (j : Job) (resources starts finishes : List ℕ) (count : ℕ) : Type 0 where
   pub held : List Row
-  pub ask : AskPlace s clock held count j
+  pub ask : AskPlace s base held count j
   pub widths : Widths resources starts finishes
   pub mirrors : Mirrors (take count held) resources starts finishes count
 
 -- whatever rows the columns are those of
-abbrev pub PlacedAmong : (s : Setup) (clock : ℕ) (j : Job) (resources starts finishes : List ℕ) (count : ℕ) (r : Placement) → Type 0
-PlacedAmong s clock j resources starts finishes count r =
-    (held : List Row) → AskPlace s clock held count j → Mirrors (take count held) resources starts finishes count →
-    PlacementIs s clock held count j r
+abbrev pub PlacedAmong : (s : Setup) (base : ℕ) (j : Job) (resources starts finishes : List ℕ) (count : ℕ) (r : Placement) → Type 0
+PlacedAmong s base j resources starts finishes count r =
+    (held : List Row) → AskPlace s base held count j → Mirrors (take count held) resources starts finishes count →
+    PlacementIs s base held count j r

@@ -11,14 +11,19 @@ use Rattle.rules.specs.declared.Job.{Job}
 use Rattle.rules.specs.declared.Setup.{Setup}
 use Rattle.rules.specs.Sequences.{any-of}
 use Rattle.rules.specs.Words.{link, horizon, largest-time, largest-volume, most-messages, most-machines, messages-of, run-time}
-use Rattle.rules.specs.Placing.{least-free, transfer, message-booking, books-message, placed, into, message-trials, all-arrived, costs, release as rules-release, Trial, trial-rows, try, choice}
+use Rattle.rules.specs.Placing.{least-free, transfer, message-booking, books-message, placed, into, message-trials, all-arrived, costs}
+use Rattle.rules.specs.Placing.{release as rules-release, Trial, trial-rows, try, choice}
 use Rattle.rules.specs.Laws.{IsTask}
 use Rattle.placement.specs.declared.Attempt.{Attempt}
 use Rattle.placement.specs.declared.choice.Kept.{Kept}
 use Rattle.rules.specs.Bounds.{Sound, Between, largest-cost}
 use Rattle.rules.specs.Demands.{InRange}
-use Rattle.placement.specs.Columns.{room, tick-bound, Widths, Lasting, Mirrors, spans-of, key}
-use Rattle.placement.specs.Asked.{AskTransfer, AskOrder, Stands, Numbered}
+use Rattle.rules.specs.Words.{holds}
+use Rattle.rules.specs.Placing.{on-rows}
+use Rattle.rules.specs.Codes.{resource-number}
+use Rattle.placement.specs.Columns.{room, tick-bound, Widths, Lasting, Mirrors, spans-of}
+use Rattle.placement.specs.Asked.{AskTransfer, AskOrder, StandsFor}
+use Rattle.rules.specs.Codes.{Numbered}
 
 -- One message.
 
@@ -32,7 +37,7 @@ pub record AskInput (s : Setup) (msg : Message) (a b done : ℕ) (starts finishe
 pub record InputIs (s : Setup) (job : ℕ) (msg : Message) (a b done : ℕ) (resources starts finishes : List ℕ) (n : ℕ) (row : Row) : Type 0 where
   pub is :
       (j : Job) → j .number ≡ job →
-      row ≡ message-booking s j msg a b (least-free done (transfer s msg a b) (spans-of (key (link a b)) resources starts finishes n))
+      row ≡ message-booking s j msg a b (least-free done (transfer s msg a b) (spans-of (resource-number (link a b)) resources starts finishes n))
 
 -- The messages of a trial.
 
@@ -65,7 +70,7 @@ pub record AskInputs (s : Setup) (j : Job) (machines done : List ℕ) (t m relea
 pub record Beside (j : Job) (machines done : List ℕ) (t : ℕ) (resources starts finishes : List ℕ) (used : ℕ) (held new : List Row) : Type 0 where
   pub mirrors : Mirrors (held ++ new) resources starts finishes used
   pub numbered : (row : Row) → List·Memᴰ row (held ++ new) → Numbered (row .holder)
-  pub stands : Stands new machines done
+  pub stands : StandsFor new machines done
   pub senders-placed : (msg : Message) → List·Memᴰ msg (into j t) → placed new (msg .sender) ≡ true
   -- no message into the task has a row yet
   pub none-ahead : (msg : Message) → List·Memᴰ msg (into j t) → any-of (books-message msg) new ≡ false
@@ -78,7 +83,7 @@ pub record Same (resources starts finishes resources′ starts′ finishes′ : 
 
 -- the rows found are those of the rules
 pub record TriedIs (s : Setup) (j : Job) (t m release : ℕ) (held new tried : List Row) (arrived cost : ℕ) : Type 0 where
-  pub rows-are : tried ≡ message-trials s held j new m [] (into j t)
+  pub rows-are : tried ≡ message-trials s (holds held) j new m [] (into j t)
   pub arrived-is : arrived ≡ all-arrived (new ++ tried) m release (into j t)
   pub cost-is : cost ≡ costs tried
 
@@ -144,8 +149,8 @@ pub record AttemptIs
   pub columns : ColumnsLeft resources starts finishes used resources′ starts′ finishes′
   pub bounds : AttemptBounds it
   pub is :
-      (held new : List Row) (clock : ℕ) → InRange s j → Beside j machines done t resources starts finishes used held new →
-      release ≡ rules-release clock j new t → IsTrial (try s clock held j new t m) it
+      (held new : List Row) (base : ℕ) → InRange s j → Beside j machines done t resources starts finishes used held new →
+      release ≡ rules-release (on-rows base held) j new t → IsTrial (try s (on-rows base held) j new t m) it
 
 -- The choice.
 
@@ -176,5 +181,5 @@ pub record ChoiceIs
   pub columns : ColumnsLeft resources starts finishes used resources′ starts′ finishes′
   pub bounds : AttemptBounds (it .best)
   pub is :
-      (held new : List Row) (clock : ℕ) → InRange s j → Beside j machines done t resources starts finishes used held new →
-      release ≡ rules-release clock j new t → IsKeptOf (choice s clock held j new t) (try s clock held j new t) it
+      (held new : List Row) (base : ℕ) → InRange s j → Beside j machines done t resources starts finishes used held new →
+      release ≡ rules-release (on-rows base held) j new t → IsKeptOf (choice s (on-rows base held) j new t) (try s (on-rows base held) j new t) it

@@ -5,14 +5,14 @@ use crate::SPANS;
 use crate::Standing;
 use crate::TRIED;
 use crate::trial::attempt;
-use crate::trial::blank;
 use rules::Job;
 use rules::Setup;
+use rules::rows::blank;
 ghost use mathlib.Core.Path.{_≡_};
 ghost use mathlib.Core.Bool.{_||_, _&&_, not};
 ghost use mathlib.Core.Bool.{false};
 ghost use lib.Dec.{ltb, eqb};
-ghost use Rattle.placement.specs.Chains.{Chained};
+ghost use Rattle.placement.specs.Threads.{Threaded};
 ghost use Rattle.placement.specs.Trials.{AttemptBounds, AskChoice, ChoiceIs};
 
 // The trial kept, if there is one, and its machine.
@@ -72,8 +72,9 @@ pub fn choose<'a>(
     used: usize,
 ) -> Kept
     requires { ⌜ AskChoice s job (standing .machines) (standing .finishes) task release (now resources) (now starts) (now finishes) used ⌝ }
-    requires { ⌜ Chained (now resources) (now nexts) (now backs) held used ⌝ }
-    ensures { λ r. ⌜ ChoiceIs s job (standing .machines) (standing .finishes) task release (now (resources .entry)) (now (starts .entry)) (now (finishes .entry)) used (now (resources .exit)) (now (starts .exit)) (now (finishes .exit)) r ⌝ }
+    requires { ⌜ Threaded (now resources) (now nexts) (now backs) held used ⌝ }
+    ensures { λ r. ⌜ ChoiceIs s job (standing .machines) (standing .finishes) task release (now (resources .entry)) (now (starts .entry))
+        (now (finishes .entry)) used (now (resources .exit)) (now (starts .exit)) (now (finishes .exit)) r ⌝ }
 {
     let at = (task - 1) as usize;
     let its = job.tasks[at];

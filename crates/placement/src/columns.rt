@@ -1,40 +1,15 @@
 // Rows as columns of numbers, which a search reads: resource, start and finish.
 use crate::HELD;
 use crate::SPANS;
-use rules::Holder;
-use rules::MACHINES;
 use rules::Row;
+use rules::codes::holder_number;
 ghost use mathlib.Core.Path.{_≡_};
 ghost use Prim.Native.Nat.{_<_};
 ghost use lib.ListN.{take, set};
-ghost use Rattle.rules.specs.Words.{link, held-by, resource};
-ghost use Rattle.rules.specs.Asked.{HasLink};
-ghost use Rattle.placement.specs.Columns.{key, room, Mirrors, Widths, ColumnOf};
-ghost use Rattle.placement.specs.Asked.{Numbered, AskFill};
-
-// The number of the link from machine a to machine b, past those of the machines.
-pub fn link_key(a: u64, b: u64) -> u64
-    requires { ⌜ HasLink a b ⌝ }
-    ensures { λ r. ⌜ r ≡ key (link a b) ⌝ }
-{
-    a * ((MACHINES + 1) as u64) + b
-}
-
-// The number of what a row books.
-pub fn holder_key(h: Holder) -> u64
-    requires { ⌜ Numbered h ⌝ }
-    ensures { λ r. ⌜ r ≡ key (held-by h) ⌝ }
-{
-    match h {
-        Holder::TaskOn { machine, task: _ } => machine,
-        Holder::MessageOn {
-            source,
-            target,
-            sender: _,
-            receiver: _,
-        } => link_key(source, target),
-    }
-}
+ghost use Rattle.rules.specs.Words.{resource};
+ghost use Rattle.rules.specs.Codes.{resource-number, Numbered};
+ghost use Rattle.placement.specs.Columns.{room, Mirrors, Widths, ColumnOf};
+ghost use Rattle.placement.specs.Asked.{AskFill};
 
 // A row's entry in the columns.
 pub fn put<'a>(
@@ -45,12 +20,12 @@ pub fn put<'a>(
     finishes: &'a mut [u64; SPANS],
 )
     requires { ⌜ (at < room) × Numbered (row .holder) ⌝ }
-    ensures { λ _. ⌜ now (resources .exit) ≡ set (now (resources .entry)) at (key (resource row)) ⌝ }
+    ensures { λ _. ⌜ now (resources .exit) ≡ set (now (resources .entry)) at (resource-number (resource row)) ⌝ }
     ensures { λ _. ⌜ now (starts .exit) ≡ set (now (starts .entry)) at (row .start) ⌝ }
     ensures { λ _. ⌜ now (finishes .exit) ≡ set (now (finishes .entry)) at (row .finish) ⌝ }
 {
     let holder = row.holder;
-    resources[at] = holder_key(holder);
+    resources[at] = holder_number(holder);
     starts[at] = row.start;
     finishes[at] = row.finish;
 }

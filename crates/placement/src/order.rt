@@ -7,7 +7,7 @@ ghost use mathlib.Core.List.{List};
 ghost use Rattle.rules.specs.declared.Row.{Row};
 ghost use Rattle.rules.specs.Words.{named};
 ghost use Rattle.rules.specs.Placing.{next-task};
-ghost use Rattle.placement.specs.Asked.{AskOrder, Stands, WaitingIs};
+ghost use Rattle.placement.specs.Asked.{AskOrder, StandsFor, WaitingIs};
 
 // The tasks that wait: some message into them has a sender that is not placed.
 fn waiting(job: Job, standing: Standing) -> [bool; TASKS]
@@ -32,7 +32,7 @@ fn waiting(job: Job, standing: Standing) -> [bool; TASKS]
 // Of the tasks that are ready the one with the earliest deadline, then the lowest number; 0 if none is.
 pub fn next_ready(job: Job, standing: Standing) -> u64
     requires { ⌜ AskOrder job ⌝ }
-    ensures { λ r. ⌜ ((new : List Row) → Stands new (standing .machines) (standing .finishes) → named r ≡ next-task job new) ⌝ }
+    ensures { λ r. ⌜ ((new : List Row) → StandsFor new (standing .machines) (standing .finishes) → named r ≡ next-task job new) ⌝ }
 {
     let waits = waiting(job, standing);
     let mut best: u64 = 0;

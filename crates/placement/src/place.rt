@@ -4,18 +4,18 @@ use crate::NODES;
 use crate::OWN;
 use crate::SPANS;
 use crate::Standing;
-use crate::chains::chain_back;
-use crate::chains::chain_on;
 use crate::choice::choose;
 use crate::columns::put;
 use crate::order::next_ready;
-use crate::trial::blank;
+use crate::threads::thread_back;
+use crate::threads::thread_on;
 use rules::Job;
 use rules::Row;
 use rules::Setup;
 use rules::TASKS;
+use rules::rows::blank;
 ghost use mathlib.Core.Path.{_≡_};
-ghost use Rattle.placement.specs.Chains.{Chained};
+ghost use Rattle.placement.specs.Threads.{Threaded};
 ghost use Rattle.placement.specs.Placements.{AskPlaceAmong, PlacedAmong, none-placed};
 ghost use Rattle.placement.specs.Appending.{AskAppend, Appended};
 
@@ -50,7 +50,8 @@ fn append<'a>(
     used: usize,
 ) -> Placement
     requires { ⌜ AskAppend own tried (now resources) (now starts) (now finishes) used ⌝ }
-    ensures { λ r. ⌜ Appended own tried (now (resources .entry)) (now (starts .entry)) (now (finishes .entry)) used (now (resources .exit)) (now (starts .exit)) (now (finishes .exit)) r ⌝ }
+    ensures { λ r. ⌜ Appended own tried (now (resources .entry)) (now (starts .entry)) (now (finishes .entry)) used (now (resources .exit))
+        (now (starts .exit)) (now (finishes .exit)) r ⌝ }
 {
     let mut rows = own.rows;
     let first = own.count;
@@ -70,10 +71,11 @@ fn append<'a>(
     }
 }
 
-// DRCD: one turn for each task, the next that is ready on the machine of the best trial. The columns are those of the held rows, chained; the job's own spans follow them.
+// DRCD: one turn for each task, the next that is ready on the machine of the best trial. The columns are those of the held rows, threaded; the job's own spans
+// follow them.
 fn place_tasks<'a>(
     s: Setup,
-    clock: u64,
+    base: u64,
     job: Job,
     resources: &'a mut [u64; SPANS],
     starts: &'a mut [u64; SPANS],
@@ -82,17 +84,17 @@ fn place_tasks<'a>(
     backs: &'a [usize; NODES],
     held: usize,
 ) -> Placement
-    requires { ⌜ AskPlaceAmong s clock job (now resources) (now starts) (now finishes) held ⌝ }
-    requires { ⌜ Chained (now resources) (now nexts) (now backs) held held ⌝ }
-    ensures { λ r. ⌜ PlacedAmong s clock job (now (resources .entry)) (now (starts .entry)) (now (finishes .entry)) held r ⌝ }
+    requires { ⌜ AskPlaceAmong s base job (now resources) (now starts) (now finishes) held ⌝ }
+    requires { ⌜ Threaded (now resources) (now nexts) (now backs) held held ⌝ }
+    ensures { λ r. ⌜ PlacedAmong s base job (now (resources .entry)) (now (starts .entry)) (now (finishes .entry)) held r ⌝ }
 {
     let mut standing = Standing {
         machines: [0; TASKS],
         finishes: [0; TASKS],
     };
     let mut own = without_rows(0);
-    // 01's floor. Between turns: the clock, the scheduling time, and the dispatch times of the tasks placed so far; each turn adds that of its own task.
-    let mut release = clock + job.scheduling;
+    // 01's floor. Between turns: the base, and the dispatch times of the tasks placed so far; each turn adds that of its own task.
+    let mut release = base;
     let mut turn: u64 = 0;
     while turn < job.taskcount {
         let task = next_ready(job, standing);
@@ -131,23 +133,23 @@ fn place_tasks<'a>(
 // A job placed beside the rows whose columns these are.
 pub fn place<'a>(
     s: Setup,
-    clock: u64,
+    base: u64,
     job: Job,
     resources: &'a mut [u64; SPANS],
     starts: &'a mut [u64; SPANS],
     finishes: &'a mut [u64; SPANS],
     count: usize,
 ) -> Placement
-    requires { ⌜ AskPlaceAmong s clock job (now resources) (now starts) (now finishes) count ⌝ }
-    ensures { λ r. ⌜ PlacedAmong s clock job (now (resources .entry)) (now (starts .entry)) (now (finishes .entry)) count r ⌝ }
+    requires { ⌜ AskPlaceAmong s base job (now resources) (now starts) (now finishes) count ⌝ }
+    ensures { λ r. ⌜ PlacedAmong s base job (now (resources .entry)) (now (starts .entry)) (now (finishes .entry)) count r ⌝ }
 {
     let mut nexts = [count; NODES];
     let mut backs = [0usize; NODES];
-    chain_on(resources, count, &mut nexts);
-    chain_back(resources, count, &mut backs);
+    thread_on(resources, count, &mut nexts);
+    thread_back(resources, count, &mut backs);
     place_tasks(
         s,
-        clock,
+        base,
         job,
         resources,
         starts,

@@ -1,12 +1,12 @@
 // The search for the least free tick, over columns of spans.
-use crate::KEYS;
 use crate::NODES;
+use crate::RESOURCES;
 use crate::SPANS;
 ghost use mathlib.Core.Path.{_≡_};
 ghost use Prim.Native.Nat.{ℕ, _+_, _^_, _≤_, _<_};
 ghost use Rattle.rules.specs.Placing.{least-free};
 ghost use Rattle.placement.specs.Columns.{room, spans-of, Searchable};
-ghost use Rattle.placement.specs.Chains.{keys, ChainOn, ChainBack, Chained, AskAlong, AskFollowing, AskPreceding};
+ghost use Rattle.placement.specs.Threads.{resource-bound, ThreadOn, ThreadBack, Threaded, AskAlong, AskFollowing, AskPreceding};
 ghost use Rattle.placement.specs.Passes.{beyond, swept, swept-back, AskEntry, NextOf, AfterLastOf};
 
 // Past a span that `len` ticks from `tick` on would meet.
@@ -53,8 +53,8 @@ fn after_last_of(resources: &[u64; SPANS], key: u64, from: usize, below: usize) 
     left
 }
 
-// Where a chain goes on: at the held entry that it names, or past its end at the first of the job's own spans of the resource, which are looked through.
-fn chained_or_own(
+// Where a thread goes on: at the held entry that it names, or past its end at the first of the job's own spans of the resource, which are looked through.
+fn threaded_or_own(
     resources: &[u64; SPANS],
     held: usize,
     count: usize,
@@ -79,13 +79,13 @@ fn following<'a>(
     key: u64,
     at: usize,
 ) -> usize
-    requires { ⌜ AskFollowing key (now resources) held count at × ChainOn (now resources) held (now nexts) ⌝ }
+    requires { ⌜ AskFollowing key (now resources) held count at × ThreadOn (now resources) held (now nexts) ⌝ }
     ensures { λ r. ⌜ NextOf key (now (resources .entry)) count (at + 1) r ⌝ }
 {
     if held <= at {
         return next_of(resources, count, key, at + 1);
     }
-    chained_or_own(resources, held, count, key, nexts[KEYS + at])
+    threaded_or_own(resources, held, count, key, nexts[RESOURCES + at])
 }
 
 // The place after the entry of the resource that precedes a place, or 0.
@@ -96,11 +96,11 @@ fn preceding<'a>(
     key: u64,
     at: usize,
 ) -> usize
-    requires { ⌜ AskPreceding key (now resources) held at × ChainBack (now resources) held (now backs) ⌝ }
+    requires { ⌜ AskPreceding key (now resources) held at × ThreadBack (now resources) held (now backs) ⌝ }
     ensures { λ r. ⌜ AfterLastOf key (now (resources .entry)) 0 at r ⌝ }
 {
     if at < held {
-        return backs[KEYS + at];
+        return backs[RESOURCES + at];
     }
     let left = after_last_of(resources, key, held, at);
     if held < left {
@@ -122,11 +122,11 @@ fn sweep<'a>(
     len: u64,
 ) -> u64
     requires { ⌜ Searchable (now starts) (now finishes) count from len ⌝ }
-    requires { ⌜ AskAlong key held × (held ≤ count) × ChainOn (now resources) held (now nexts) ⌝ }
+    requires { ⌜ AskAlong key held × (held ≤ count) × ThreadOn (now resources) held (now nexts) ⌝ }
     ensures { λ r. ⌜ r ≡ swept len (spans-of key (now (resources .entry)) (now (starts .entry)) (now (finishes .entry)) count) from ⌝ }
 {
     let mut tick = from;
-    let mut i = chained_or_own(resources, held, count, key, nexts[key as usize]);
+    let mut i = threaded_or_own(resources, held, count, key, nexts[key as usize]);
     while i < count {
         tick = past(starts[i], finishes[i], tick, len);
         i = following(resources, nexts, held, count, key, i);
@@ -147,7 +147,7 @@ fn sweep_back<'a>(
     len: u64,
 ) -> u64
     requires { ⌜ Searchable (now starts) (now finishes) count from len ⌝ }
-    requires { ⌜ AskAlong key held × (held ≤ count) × ChainBack (now resources) held (now backs) ⌝ }
+    requires { ⌜ AskAlong key held × (held ≤ count) × ThreadBack (now resources) held (now backs) ⌝ }
     ensures { λ r. ⌜ r ≡ swept-back len (spans-of key (now (resources .entry)) (now (starts .entry)) (now (finishes .entry)) count) from ⌝ }
 {
     let mut tick = from;
@@ -160,7 +160,8 @@ fn sweep_back<'a>(
     tick
 }
 
-// The least tick, not before `from`, at which `len` ticks meet no span of the resource. Passes go on, up and down by turns, until one moves nothing: spans that ascend are passed in the first, spans that descend in the second.
+// The least tick, not before `from`, at which `len` ticks meet no span of the resource. Passes go on, up and down by turns, until one moves nothing: spans that
+// ascend are passed in the first, spans that descend in the second.
 pub fn least_free<'a>(
     resources: &'a [u64; SPANS],
     starts: &'a [u64; SPANS],
@@ -174,7 +175,7 @@ pub fn least_free<'a>(
     len: u64,
 ) -> u64
     requires { ⌜ Searchable (now starts) (now finishes) count from len ⌝ }
-    requires { ⌜ (key < keys) × Chained (now resources) (now nexts) (now backs) held count ⌝ }
+    requires { ⌜ (key < resource-bound) × Threaded (now resources) (now nexts) (now backs) held count ⌝ }
     ensures { λ r. ⌜ r ≡ least-free from len (spans-of key (now (resources .entry)) (now (starts .entry)) (now (finishes .entry)) count) ⌝ }
 {
     let mut tick = from;

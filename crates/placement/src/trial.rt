@@ -7,20 +7,20 @@ use crate::TRIED;
 use crate::bookings::message_row;
 use crate::bookings::task_row;
 use crate::bookings::transfer_of;
-use crate::columns::link_key;
 use crate::columns::put;
 use crate::search::least_free;
-use rules::Holder;
 use rules::Job;
 use rules::Message;
 use rules::Row;
 use rules::Setup;
+use rules::codes::link_number;
+use rules::rows::blank;
 ghost use mathlib.Core.Path.{_≡_};
 ghost use Prim.Native.Nat.{max};
 ghost use Rattle.rules.specs.declared.Row.{Row};
 ghost use Rattle.rules.specs.Words.{run-time};
-ghost use Rattle.rules.specs.Placing.{no-row, crosses as rules-crosses};
-ghost use Rattle.placement.specs.Chains.{Chained};
+ghost use Rattle.rules.specs.Placing.{crosses as rules-crosses};
+ghost use Rattle.placement.specs.Threads.{Threaded};
 ghost use Rattle.placement.specs.Trials.{AskInput, InputIs, AskInputs, InputsAre, AskAttempt, AttemptIs};
 
 // The rows that the messages of a trial take, how many, the last arrival, and their cost.
@@ -29,22 +29,6 @@ pub struct Inputs {
     pub count: usize,
     pub arrived: u64,
     pub cost: u64,
-}
-
-// What stands in a slot that is not used.
-pub fn blank() -> Row
-    ensures { λ r. ⌜ r ≡ no-row ⌝ }
-{
-    Row {
-        holder: Holder::TaskOn {
-            machine: 0,
-            task: 0,
-        },
-        job: 0,
-        start: 0,
-        finish: 0,
-        cost: 0,
-    }
 }
 
 // The later of two ticks.
@@ -84,11 +68,11 @@ fn try_message<'a>(
     count: usize,
 ) -> Row
     requires { ⌜ AskInput s msg a b done (now starts) (now finishes) count ⌝ }
-    requires { ⌜ Chained (now resources) (now nexts) (now backs) held count ⌝ }
+    requires { ⌜ Threaded (now resources) (now nexts) (now backs) held count ⌝ }
     ensures { λ r. ⌜ InputIs s job msg a b done (now (resources .entry)) (now (starts .entry)) (now (finishes .entry)) count r ⌝ }
 {
     let len = transfer_of(s, msg, a, b);
-    let key = link_key(a, b);
+    let key = link_number(a, b);
     let start = least_free(
         resources,
         starts,
@@ -121,8 +105,9 @@ fn try_messages<'a>(
     used: usize,
 ) -> Inputs
     requires { ⌜ AskInputs s job (standing .machines) (standing .finishes) task machine release (now resources) (now starts) (now finishes) used ⌝ }
-    requires { ⌜ Chained (now resources) (now nexts) (now backs) held used ⌝ }
-    ensures { λ r. ⌜ InputsAre s job (standing .machines) (standing .finishes) task machine release (now (resources .entry)) (now (starts .entry)) (now (finishes .entry)) used (now (resources .exit)) (now (starts .exit)) (now (finishes .exit)) (r .rows) (r .count) (r .arrived) (r .cost) ⌝ }
+    requires { ⌜ Threaded (now resources) (now nexts) (now backs) held used ⌝ }
+    ensures { λ r. ⌜ InputsAre s job (standing .machines) (standing .finishes) task machine release (now (resources .entry)) (now (starts .entry))
+        (now (finishes .entry)) used (now (resources .exit)) (now (starts .exit)) (now (finishes .exit)) (r .rows) (r .count) (r .arrived) (r .cost) ⌝ }
 {
     let mut rows = [blank(); TRIED];
     let mut count: usize = 0;
@@ -190,9 +175,10 @@ pub fn attempt<'a>(
     used: usize,
 ) -> Attempt
     requires { ⌜ AskAttempt s job (standing .machines) (standing .finishes) task machine release (now resources) (now starts) (now finishes) used ⌝ }
-    requires { ⌜ Chained (now resources) (now nexts) (now backs) held used ⌝ }
+    requires { ⌜ Threaded (now resources) (now nexts) (now backs) held used ⌝ }
     requires { ⌜ run ≡ run-time job task machine ⌝ }
-    ensures { λ r. ⌜ AttemptIs s job (standing .machines) (standing .finishes) task machine release (now (resources .entry)) (now (starts .entry)) (now (finishes .entry)) used (now (resources .exit)) (now (starts .exit)) (now (finishes .exit)) r ⌝ }
+    ensures { λ r. ⌜ AttemptIs s job (standing .machines) (standing .finishes) task machine release (now (resources .entry)) (now (starts .entry))
+        (now (finishes .entry)) used (now (resources .exit)) (now (starts .exit)) (now (finishes .exit)) r ⌝ }
 {
     let found = try_messages(
         s,

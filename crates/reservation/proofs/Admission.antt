@@ -4,15 +4,16 @@ use mathlib.Core.List.{List, [], _∷_, _++_, append-nil, append-assoc}
 use Prim.Native.Nat.{ℕ, suc, _+_, _-_, _^_, _≤_, _<_}
 use native.Mathlib.Omega.{arith}
 use native.Mathlib.Nat.{add-suc}
-use lib.ListN.{length, getD, take, set, length-set}
-use lib.Seq.{take-suc, take-suc-set, getD-set-other}
+use lib.ListN.{length, getD, take, set, replicate, length-set, length-append}
+use lib.Seq.{take-suc, take-suc-set, getD-set-other, length-take-le}
 use Rattle.rules.specs.declared.Row.{Row}
 use Rattle.rules.specs.Words.{row-limit}
-use Rattle.rules.specs.Placing.{no-row, costs}
+use Rattle.rules.specs.Placing.{no-row}
 use Rattle.placement.specs.declared.place.Placement.{Placement}
 use Rattle.placement.proofs.Placed.{costs-at-most}
 use Rattle.reservation.specs.declared.Register.{Register}
 use Rattle.reservation.specs.Parts.{AskAdmit, Admits}
+use Rattle.reservation.proofs.Values.{blank-rest}
 
 -- after i rows
 pub record Filling (r : Register) (found : Placement) (rows : List Row) (i : ℕ) : Type 0 where
@@ -62,6 +63,7 @@ module _ {r : Register} {found : Placement} (ask : AskAdmit r found) where
       let more = ask .cost-at-most in
       omega arith
 
+  -- the register left is the one that stands for the rows held and those of the job
   pub filled :
       {rows : List Row} {i : ℕ} → Filling r found rows i → found .count ≤ i →
       Admits r found (record { setup = r .setup; clock = r .clock; count = r .count + found .count; rows = rows; total = r .total + found .cost })
@@ -69,12 +71,15 @@ module _ {r : Register} {found : Placement} (ask : AskAdmit r found) where
       let within = f .within in
       let all : i ≡ found .count = omega arith in
       let done = subst (Filling r found rows) all f in
-      record {
-        setup-is = refl;
-        clock-is = refl;
-        count-is = refl;
-        total-is = refl;
-        long = done .long;
-        rows-are = done .rows-are;
-        blank = done .blank;
-      }
+      let kept = take (r .count) (r .rows) in
+      let new = take (found .count) (found .rows) in
+      let fits = ask .fits in
+      let count-is : r .count + found .count ≡ length (kept ++ new)
+      = let held = length-take-le (r .count) (r .rows) (let l = ask .valid .long in omega arith) in
+      let own = length-take-le (found .count) (found .rows) (let l = ask .found-long in let few = ask .found-at-most in omega arith) in
+      let both = length-append kept new in
+      omega arith in
+      let rows-are : rows ≡ (kept ++ new) ++ replicate (row-limit - length (kept ++ new)) no-row
+      = blank-rest rows (r .count + found .count) (done .long) fits (done .blank)
+      ∙ ap₂ (λ l k. l ++ replicate (row-limit - k) no-row) (done .rows-are) count-is in
+      λ i. record { setup = r .setup; clock = r .clock; count = count-is i; rows = rows-are i; total = r .total + found .cost }

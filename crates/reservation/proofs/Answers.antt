@@ -25,7 +25,7 @@ module _ (s : Setup) (v : View) (j : Job) (range : InRange s j) (free : v .held 
       FirstRefusal
       n
       t
-      (record { number = 6; refuses = first-infeasible s (v .clock) j }
+      (record { number = 6; refuses = first-infeasible s (v .calendar .clock) j }
       ∷ record { number = 7; refuses = missed (placing s v j) }
       ∷ record { number = 8; refuses = refuse-if (ltb row-limit (length (v .rows) + length (found (placing s v j)))) }
       ∷ []) →
@@ -36,10 +36,10 @@ module _ (s : Setup) (v : View) (j : Job) (range : InRange s j) (free : v .held 
       (ap refuse-if (range .number))
       (later (ap refuse-if (range .counts)) (later (ap refuse-if (range .figures)) (later (ap refuse-if (range .messages)) (later (ap refuse-if free) f))))
 
-  pub answer-6 : {t : ℕ} → first-infeasible s (v .clock) j ≡ some t → submit-answer s v j ≡ refusal 6 t
+  pub answer-6 : {t : ℕ} → first-infeasible s (v .calendar .clock) j ≡ some t → submit-answer s v j ≡ refusal 6 t
   answer-6 e = first-answers s v j (past-five (here refl e))
 
-  module _ (feasible : first-infeasible s (v .clock) j ≡ none) where
+  module _ (feasible : first-infeasible s (v .calendar .clock) j ≡ none) where
     pub answer-7 : {t : ℕ} → placing s v j ≡ late t → submit-answer s v j ≡ refusal 7 t
     unfolding missed
     answer-7 e = first-answers s v j (past-five (later feasible (here refl (ap missed e))))

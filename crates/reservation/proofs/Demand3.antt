@@ -1,5 +1,5 @@
 -- Demand 3 of the code: every list of calls has one trace from an opened register, and it is the rules' run.
-use mathlib.Core.Path.{_≡_, refl, sym, ap, ap₂, _∙_, subst, subst₂}
+use mathlib.Core.Path.{_≡_, refl, sym, ap, ap₂, _∙_, subst₂}
 use mathlib.Core.List.{List, [], _∷_}
 use Rattle.rules.specs.declared.Answer.{Answer}
 use Rattle.rules.specs.declared.Setup.{Setup}
@@ -13,7 +13,7 @@ use Rattle.rules.proofs.Demand3.{demand-3}
 use Rattle.reservation.specs.declared.Register.{Register}
 use Rattle.reservation.specs.Registers.{state-of, register-of}
 use Rattle.reservation.specs.Calls.{Steps}
-use Rattle.reservation.specs.Demands.{opened, Trace, done, call, Demand3-of-code}
+use Rattle.reservation.specs.Demands.{opened, Trace, ends, continues, Demand3-of-code}
 use Rattle.reservation.proofs.Values.{state-same, register-valid}
 
 module _ (s : Setup) (sound : Sound s) where
@@ -27,19 +27,20 @@ module _ (s : Setup) (sound : Sound s) where
     valid = register-valid s (step s st c .left) sound (bounded-step s sound st c bounded);
   }
 
-  trace-there : (calls : List Call) (st : State) → Bounded s st → Trace (register-of s st) calls (answers (step s) st calls) (register-of s (after (step s) st calls))
+  trace-there : (calls : List Call) (st : State) → Bounded s st →
+      Trace (register-of s st) calls (answers (step s) st calls) (register-of s (after (step s) st calls))
   unfolding answers after
-  trace-there [] st bounded = done
+  trace-there [] st bounded = ends
   trace-there (c ∷ calls) st bounded =
-      call (step-there st bounded c) (trace-there calls (step s st c .left) (bounded-step s sound st c bounded))
+      continues (step-there st bounded c) (trace-there calls (step s st c .left) (bounded-step s sound st c bounded))
 
   -- whatever trace there is, it is that one
   trace-only :
       (calls : List Call) (st : State) (r : Register) → r ≡ register-of s st → (replies : List Answer) (last : Register) → Trace r calls replies last →
       (replies ≡ answers (step s) st calls) × (last ≡ register-of s (after (step s) st calls))
   unfolding answers after
-  trace-only calls st r e replies last done = (refl, e)
-  trace-only calls st r e replies last (call {c = c} {calls = rest} {replies = more} {result = result} is trace) =
+  trace-only calls st r e replies last ends = (refl, e)
+  trace-only calls st r e replies last (continues {c = c} {calls = rest} {replies = more} {result = result} is trace) =
       let setup-is : r .setup ≡ s = ap (λ x. x .setup) e in
       let state-is : state-of r ≡ st = ap state-of e ∙ state-same s st in
       let answer-is : result .answer ≡ step s st c .answer = is .answer-is ∙ ap₂ (λ a b. step a b c .answer) setup-is state-is in

@@ -1,10 +1,8 @@
 -- Demands 1 and 2 of the code, from the contracts alone: what the rules answer and leave is what a call answers and leaves.
-use mathlib.Core.Path.{_≡_, sym, ap, _∙_}
-use mathlib.Core.Logic.{_≢_}
+use mathlib.Core.Path.{sym, ap, _∙_}
 use borrow.Author.Tests.{ne-eqb}
 use Rattle.rules.specs.declared.Job.{Job}
-use Rattle.rules.specs.Words.{view}
-use Rattle.rules.specs.Refusals.{Call, submits, accepted}
+use Rattle.rules.specs.Refusals.{Call, accepted}
 use Rattle.rules.proofs.Demand1.{demand-1}
 use Rattle.rules.proofs.Demand2.{demand-2}
 use Rattle.rules.proofs.Struck.{step-still}

@@ -1,5 +1,4 @@
 -- Laws that the functions' proofs cite.
-pub mod Sums
 pub mod Rowwise
 pub mod Sighted
 pub mod Answers

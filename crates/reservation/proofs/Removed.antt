@@ -35,7 +35,8 @@ abbrev pub Serves : (jobs finishes : List ℕ) (count tick i asked : ℕ) → Bo
 Serves jobs finishes count tick i asked gone = (getD jobs i 0 ≡ asked) × EndedIs jobs finishes count asked tick gone
 
 module _ {jobs finishes : List ℕ} {count tick asked : ℕ} {gone : Bool} where
-  pub ending-none : (mask : List Bool) → length mask ≡ row-limit → EndedIs jobs finishes count asked tick gone → Ending jobs finishes count tick mask asked gone 0
+  pub ending-none : (mask : List Bool) → length mask ≡ row-limit → EndedIs jobs finishes count asked tick gone →
+      Ending jobs finishes count tick mask asked gone 0
   ending-none mask long known = record { known = known; made = λ rows a l b. made-none false _ rows mask long }
 
   module _ {mask : List Bool} {i : ℕ} (g : Ending jobs finishes count tick mask asked gone i) where
@@ -93,7 +94,8 @@ module _ {r : Register} (valid : Valid r) {mask : List Bool} where
     next-row : take (suc i) (r .rows) ≡ take i (r .rows) ++ (row ∷ [])
     next-row = take-suc (r .rows) i no-row (let l = valid .long in let c = valid .count-at-most in omega arith)
 
-    next-kept : (leaves : Row → Bool) → keep (λ x. not (leaves x)) (take (suc i) (r .rows)) ≡ keep (λ x. not (leaves x)) (take i (r .rows)) ++ cons-if (not (leaves row)) row []
+    next-kept : (leaves : Row → Bool) → keep (λ x. not (leaves x)) (take (suc i) (r .rows)) ≡ keep (λ x. not (leaves x)) (take i (r .rows)) ++ cons-if
+        (not (leaves row)) row []
     next-kept leaves = ap (keep (λ x. not (leaves x))) next-row ∙ keep-append (λ x. not (leaves x)) (take i (r .rows)) (row ∷ [])
 
     pub cost-there : row .cost ≤ total

@@ -22,7 +22,8 @@ module _ (p q : Row → Bool) (rows : List Row) where
   abbrev None-of : ℕ → Type 0
   None-of i = any-of p (keep q (take i rows)) ≡ false
 
-  one-more : (i : ℕ) → i < length rows → any-of p (keep q (take (suc i) rows)) ≡ any-of p (keep q (take i rows)) || any-of p (cons-if (q (getD rows i no-row)) (getD rows i no-row) [])
+  one-more : (i : ℕ) → i < length rows → any-of p (keep q (take (suc i) rows)) ≡ any-of p (keep q (take i rows)) || any-of p
+      (cons-if (q (getD rows i no-row)) (getD rows i no-row) [])
   one-more i h =
       ap (λ l. any-of p (keep q l)) (take-suc rows i no-row h)
       ∙ ap (any-of p) (keep-append q (take i rows) (getD rows i no-row ∷ []))

@@ -5,7 +5,7 @@ use mathlib.Core.List.{List, _++_, append-nil, Memᴰ·append-right}
 use mathlib.Core.Option.{none}
 use Prim.Native.Nat.{ℕ, _+_, _-_, _≤_, _<_}
 use native.Mathlib.Omega.{arith}
-use lib.ListN.{length, take, replicate, length-append, length-replicate, getD-replicate}
+use lib.ListN.{length, take, replicate, length-replicate, getD-replicate}
 use lib.Seq.{length-take-le}
 use lib.Dec.{ltb, leb, eqb}
 use borrow.Author.Tests.{eqb-true, eqb-false, ltb-true, ltb-false, ne-eqb, lt-ltb, le-ltb}
@@ -18,13 +18,13 @@ use Rattle.rules.specs.Words.{State, View, view, of-job, row-limit, horizon, na
 use Rattle.rules.specs.Placing.{no-row, costs, booked}
 use Rattle.rules.specs.Withdrawing.{admit, withdraw, advance, remove, ended}
 use Rattle.rules.specs.Refusals.{refuse-if, refusal, accepted, first-infeasible, placing, found, submit-tests, withdraw-tests, withdraw-answer}
-use Rattle.rules.specs.Refusals.{clock-tests, clock-answer, Call, submits, withdraws, moves, settle, step}
+use Rattle.rules.specs.Refusals.{advance-tests, advance-answer, Call, submits, withdraws, advances, settle, step}
 use Rattle.rules.specs.Demands.{here, later, passes, end}
 use Rattle.rules.specs.Bounds.{Bounded}
 use Rattle.rules.proofs.Sequences.{by-test, keep-all, keep-none}
 use Rattle.rules.proofs.Demand1.{judged-first, judged-passed}
 use Rattle.rules.proofs.Struck.{step-still}
-use Rattle.rules.proofs.Bounds.{bounded-step}
+use Rattle.rules.proofs.Bounds.{bounded-step, scheduling-figure}
 use Rattle.feasibility.specs.Tests.{EarlyIs}
 use Rattle.feasibility.proofs.Firsts.{first-answers}
 use Rattle.placement.specs.Columns.{ColumnOf}
@@ -35,8 +35,8 @@ use Rattle.reservation.specs.declared.Register.{Register}
 use Rattle.reservation.specs.Registers.{state-of, register-of, Valid}
 use Rattle.reservation.specs.declared.submission.Verdict.{Verdict}
 use Rattle.reservation.specs.Calls.{Steps}
-use Rattle.reservation.specs.Parts.{AskAdmit, Admits, refuses, Settles, Judges, RemovalIs, no-removal}
-use Rattle.reservation.proofs.Values.{register-same, register-valid, blank-rest}
+use Rattle.reservation.specs.Parts.{AskAdmit, Admits, refused-verdict, Settles, Judges, RemovalIs, no-removal, with-found}
+use Rattle.reservation.proofs.Values.{register-same, register-valid}
 use Rattle.reservation.proofs.Answers.{answer-6, answer-7, answer-8, answer-0, admitted-left}
 
 module _ {r : Register} (valid : Valid r) (c : Call) (a : Answer) (is : step (r .setup) (state-of r) c .answer ≡ a) where
@@ -47,7 +47,8 @@ module _ {r : Register} (valid : Valid r) (c : Call) (a : Answer) (is : step (r 
       record { answer-is = sym is; left-is = sym (ap (register-of (r .setup)) still ∙ register-same r valid); valid = valid }
 
   -- an accepted call leaves the register of the state that the rules leave
-  pub accepted-steps : (left : Register) → left ≡ register-of (r .setup) (step (r .setup) (state-of r) c .left) → Steps r c (record { answer = a; register = left })
+  pub accepted-steps : (left : Register) → left ≡ register-of (r .setup) (step (r .setup) (state-of r) c .left) →
+      Steps r c (record { answer = a; register = left })
   accepted-steps left e = record {
     answer-is = sym is;
     left-is = e;
@@ -61,27 +62,6 @@ module _ {r : Register} (valid : Valid r) (c : Call) (a : Answer) (is : step (r 
         (valid .sound)
         (bounded-step (r .setup) (valid .sound) (state-of r) c (valid .bounded)));
   }
-
--- Rows to admit.
-
--- the register left is the one that stands for the rows held and those of the job
-admits-is :
-    {r : Register} {found : Placement} {left : Register} → AskAdmit r found → Admits r found left →
-    left
-    ≡ register-of (r .setup) (record { clock = r .clock; rows = take (r .count) (r .rows) ++ take (found .count) (found .rows); total = r .total + found .cost })
-admits-is {r} {found} {left} ask ad =
-    let kept = take (r .count) (r .rows) in
-    let rows = take (found .count) (found .rows) in
-    let fits = ask .fits in
-    let count = ad .count-is in
-    let count-is : left .count ≡ length (kept ++ rows)
-    = let held = length-take-le (r .count) (r .rows) (let l = ask .valid .long in omega arith) in
-    let own = length-take-le (found .count) (found .rows) (let l = ask .found-long in let few = ask .found-at-most in omega arith) in
-    let both = length-append kept rows in
-    omega arith in
-    let rows-are : left .rows ≡ (kept ++ rows) ++ replicate (row-limit - length (kept ++ rows)) no-row
-    = blank-rest (left .rows) (left .count) (ad .long) (omega arith) (ad .blank) ∙ ap₂ (λ l k. l ++ replicate (row-limit - k) no-row) (ad .rows-are) count-is in
-    λ i. record { setup = ad .setup-is i; clock = ad .clock-is i; count = count-is i; rows = rows-are i; total = ad .total-is i }
 
 -- No rows to admit.
 
@@ -101,14 +81,12 @@ module _ {r : Register} (valid : Valid r) where
   admits-none ad =
       let rows-same = append-nil (take (r .count) (r .rows)) in
       let total-same : r .total + 0 ≡ r .total = omega arith in
-      admits-is ask-none ad
-      ∙ ap (register-of (r .setup)) (λ i. record { clock = r .clock; rows = rows-same i; total = total-same i })
-      ∙ register-same r valid
+      ad ∙ ap (register-of (r .setup)) (λ i. record { calendar = state-of r .calendar; rows = rows-same i; total = total-same i }) ∙ register-same r valid
 
   -- a refusal admits no rows
   pub judges-refused :
       {j : Job} {n t : ℕ} → Steps r (submits j) (record { answer = refusal n t; register = r }) →
-      (v : Verdict) → v ≡ refuses n t → Judges r j v
+      (v : Verdict) → v ≡ refused-verdict n t → Judges r j v
   judges-refused {j} {n} {t} st v e =
       subst
       (Judges r j)
@@ -122,10 +100,13 @@ module _ {r : Register} (valid : Valid r) {j : Job} {n : ℕ} (early : EarlyIs (
   unfolding step settle
   submit-early ne = refused-steps valid (submits j) (refusal n 0) (early .refused ne (view (state-of r))) ne
 
-  pub ask-place : n ≡ 0 → AskPlace (r .setup) (r .clock) (r .rows) (r .count) j
+  pub ask-place : n ≡ 0 → AskPlace (r .setup) (r .clock + j .scheduling) (r .rows) (r .count) j
   ask-place z = record {
     sound = valid .sound;
-    clock-at-most = valid .bounded .clock;
+    base-at-most =
+        let low = valid .bounded .clock in
+        let short = scheduling-figure (r .setup) j (early .in-range z) in
+        omega arith;
     count-at-most = valid .count-at-most;
     rows-in-range = valid .bounded .rows;
     in-range = early .in-range z;
@@ -143,7 +124,8 @@ module _ {r : Register} (valid : Valid r) {j : Job} {n : ℕ} (early : EarlyIs (
       (r .setup)
       (view (state-of r))
       j
-      (later (ap refuse-if (range .number)) (later (ap refuse-if (range .counts)) (later (ap refuse-if (range .figures)) (later (ap refuse-if (range .messages)) (here refl (ap refuse-if e)))))))
+      (later (ap refuse-if (range .number)) (later (ap refuse-if (range .counts))
+      (later (ap refuse-if (range .figures)) (later (ap refuse-if (range .messages)) (here refl (ap refuse-if e)))))))
       (λ x. omega arith)
 
   module _ (z : n ≡ 0) (free : view (state-of r) .held (j .number) ≡ false) where
@@ -159,7 +141,7 @@ module _ {r : Register} (valid : Valid r) {j : Job} {n : ℕ} (early : EarlyIs (
         refused-steps valid (submits j) (refusal 6 t) (answer-6 s v j (early .in-range z) free (next-some t ne e)) (λ x. omega arith)
 
     module _ {t : ℕ} (feasible : named t ≡ first-infeasible s (r .clock) j) (none-such : t ≡ 0) {found : Placement}
-        (is : PlacementIs s (r .clock) (r .rows) (r .count) j found) where
+        (is : PlacementIs s (r .clock + j .scheduling) (r .rows) (r .count) j found) where
       no-infeasible : first-infeasible s (r .clock) j ≡ none
       no-infeasible = next-none none-such feasible
 
@@ -241,9 +223,9 @@ module _ {r : Register} (valid : Valid r) {j : Job} {n : ℕ} (early : EarlyIs (
           pub submit-0 : {left : Register} → Admits r found left → Steps r (submits j) (record { answer = admission; register = left })
           unfolding admit
           submit-0 {left} ad =
-              let admitted : record { clock = r .clock; rows = take (r .count) (r .rows) ++ rows; total = r .total + found .cost } ≡ admit (state-of r) rows
-              = λ i. record { clock = r .clock; rows = take (r .count) (r .rows) ++ rows; total = r .total + is .cost-is i } in
-              accepted-steps valid (submits j) admission answered left (admits-is ask-admit ad ∙ ap (register-of s) (admitted ∙ sym left-admits))
+              let admitted : with-found r found ≡ admit (state-of r) rows
+              = λ i. record { calendar = state-of r .calendar; rows = take (r .count) (r .rows) ++ rows; total = r .total + is .cost-is i } in
+              accepted-steps valid (submits j) admission answered left (ad ∙ ap (register-of s) (admitted ∙ sym left-admits))
 
       -- late, too many rows, or admitted
       pub judges-settled : (w : Verdict) → Settles (r .count) found w → Judges r j w
@@ -272,11 +254,13 @@ module _ (s : Setup) (st : State) where
   unfolding step settle withdraw-answer withdraw-tests
   withdraw-9 n a = judged-first _ (here refl (ap (λ b. refuse-if (not b)) a))
 
-  pub withdraw-10 : (n : ℕ) → view st .held n ≡ true → any-of (λ row. leb (row .start) (st .clock)) (view st .rows-of n) ≡ true → step s st (withdraws n) .answer ≡ refusal 10 0
+  pub withdraw-10 : (n : ℕ) → view st .held n ≡ true → any-of (λ row. leb (row .start) (st .calendar .clock)) (view st .rows-of n) ≡ true →
+      step s st (withdraws n) .answer ≡ refusal 10 0
   unfolding step settle withdraw-answer withdraw-tests
   withdraw-10 n a b = judged-first _ (later (ap (λ b. refuse-if (not b)) a) (here refl (ap refuse-if b)))
 
-  pub withdraw-0 : (n : ℕ) → view st .held n ≡ true → any-of (λ row. leb (row .start) (st .clock)) (view st .rows-of n) ≡ false → step s st (withdraws n) .answer ≡ refusal 0 0
+  pub withdraw-0 : (n : ℕ) → view st .held n ≡ true → any-of (λ row. leb (row .start) (st .calendar .clock)) (view st .rows-of n) ≡ false →
+      step s st (withdraws n) .answer ≡ refusal 0 0
   unfolding step settle withdraw-answer withdraw-tests
   withdraw-0 n a b = judged-passed _ (passes (ap (λ b. refuse-if (not b)) a) (passes (ap refuse-if b) end))
 
@@ -284,21 +268,21 @@ module _ (s : Setup) (st : State) where
   unfolding step settle
   withdrawn-left n e = rw (ap (λ a. a .number) e) refl
 
-  pub clock-11 : (tick : ℕ) → tick < st .clock → step s st (moves tick) .answer ≡ refusal 11 0
-  unfolding step settle clock-answer clock-tests
-  clock-11 tick h = judged-first _ (here refl (ap refuse-if (lt-ltb tick (st .clock) h)))
+  pub advance-11 : (tick : ℕ) → tick < st .calendar .clock → step s st (advances tick) .answer ≡ refusal 11 0
+  unfolding step settle advance-answer advance-tests
+  advance-11 tick h = judged-first _ (here refl (ap refuse-if (lt-ltb tick (st .calendar .clock) h)))
 
-  pub clock-12 : (tick : ℕ) → st .clock ≤ tick → horizon < tick → step s st (moves tick) .answer ≡ refusal 12 0
-  unfolding step settle clock-answer clock-tests
-  clock-12 tick h k = judged-first _ (later (ap refuse-if (le-ltb tick (st .clock) h)) (here refl (ap refuse-if (lt-ltb horizon tick k))))
+  pub advance-12 : (tick : ℕ) → st .calendar .clock ≤ tick → horizon < tick → step s st (advances tick) .answer ≡ refusal 12 0
+  unfolding step settle advance-answer advance-tests
+  advance-12 tick h k = judged-first _ (later (ap refuse-if (le-ltb tick (st .calendar .clock) h)) (here refl (ap refuse-if (lt-ltb horizon tick k))))
 
-  pub clock-0 : (tick : ℕ) → st .clock ≤ tick → tick ≤ horizon → step s st (moves tick) .answer ≡ refusal 0 0
-  unfolding step settle clock-answer clock-tests
-  clock-0 tick h k = judged-passed _ (passes (ap refuse-if (le-ltb tick (st .clock) h)) (passes (ap refuse-if (le-ltb horizon tick k)) end))
+  pub advance-0 : (tick : ℕ) → st .calendar .clock ≤ tick → tick ≤ horizon → step s st (advances tick) .answer ≡ refusal 0 0
+  unfolding step settle advance-answer advance-tests
+  advance-0 tick h k = judged-passed _ (passes (ap refuse-if (le-ltb tick (st .calendar .clock) h)) (passes (ap refuse-if (le-ltb horizon tick k)) end))
 
-  pub moved-left : (tick : ℕ) → step s st (moves tick) .answer ≡ refusal 0 0 → step s st (moves tick) .left ≡ advance st tick
+  pub advanced-left : (tick : ℕ) → step s st (advances tick) .answer ≡ refusal 0 0 → step s st (advances tick) .left ≡ advance st tick
   unfolding step settle
-  moved-left tick e = rw (ap (λ a. a .number) e) refl
+  advanced-left tick e = rw (ap (λ a. a .number) e) refl
 
 -- nothing changes if no row leaves
 remove-none : (st : State) → remove (λ row. false) st ≡ st
@@ -307,7 +291,7 @@ remove-none st =
     let stay = keep-all (λ row. true) (st .rows) (λ row m. refl) in
     let none-gone = ap costs (keep-none (λ row. false) (st .rows) (λ row m. refl)) in
     let total-stays : st .total - costs (keep (λ row. false) (st .rows)) ≡ st .total = omega arith in
-    λ i. record { clock = st .clock; rows = stay i; total = total-stays i }
+    λ i. record { calendar = st .calendar; rows = stay i; total = total-stays i }
 
 module _ {r : Register} (valid : Valid r) where
   -- so a refusal leaves the very same register
@@ -332,7 +316,8 @@ module _ {r : Register} (valid : Valid r) where
 
       pub withdrawn :
           any-of (λ row. leb (row .start) (r .clock)) (view (state-of r) .rows-of n) ≡ false →
-          {mask : List Bool} → ColumnOf false (of-job n) (r .rows) (r .count) mask → RemovalIs r (withdraws n) (record { number = 0; clock = r .clock; leaves = mask })
+          {mask : List Bool} → ColumnOf false (of-job n) (r .rows) (r .count) mask →
+          RemovalIs r (withdraws n) (record { number = 0; clock = r .clock; leaves = mask })
       unfolding withdraw
       withdrawn b m left removes =
           let is = withdraw-0 (r .setup) (state-of r) n a b in
@@ -345,18 +330,19 @@ module _ {r : Register} (valid : Valid r) where
           (removes (of-job n) m ∙ ap (register-of (r .setup)) (sym (withdrawn-left (r .setup) (state-of r) n is)))
 
   module _ (tick : ℕ) where
-    pub refused-11 : tick < r .clock → RemovalIs r (moves tick) (no-removal 11 (r .clock))
-    refused-11 h = refusal-removal (moves tick) 11 (clock-11 (r .setup) (state-of r) tick h) (λ z. omega arith)
+    pub refused-11 : tick < r .clock → RemovalIs r (advances tick) (no-removal 11 (r .clock))
+    refused-11 h = refusal-removal (advances tick) 11 (advance-11 (r .setup) (state-of r) tick h) (λ z. omega arith)
 
     module _ (h : r .clock ≤ tick) where
-      pub refused-12 : horizon < tick → RemovalIs r (moves tick) (no-removal 12 (r .clock))
-      refused-12 k = refusal-removal (moves tick) 12 (clock-12 (r .setup) (state-of r) tick h k) (λ z. omega arith)
+      pub refused-12 : horizon < tick → RemovalIs r (advances tick) (no-removal 12 (r .clock))
+      refused-12 k = refusal-removal (advances tick) 12 (advance-12 (r .setup) (state-of r) tick h k) (λ z. omega arith)
 
-      pub clock-moved :
+      pub advanced :
           tick ≤ horizon →
           {mask : List Bool} → ColumnOf false (λ row. ended tick (keep (of-job (row .job)) (take (r .count) (r .rows)))) (r .rows) (r .count) mask →
-          RemovalIs r (moves tick) (record { number = 0; clock = tick; leaves = mask })
+          RemovalIs r (advances tick) (record { number = 0; clock = tick; leaves = mask })
       unfolding advance
-      clock-moved k m left removes =
-          let is = clock-0 (r .setup) (state-of r) tick h k in
-          accepted-steps valid (moves tick) (refusal 0 0) is left (removes _ m ∙ ap (register-of (r .setup)) (sym (moved-left (r .setup) (state-of r) tick is)))
+      advanced k m left removes =
+          let is = advance-0 (r .setup) (state-of r) tick h k in
+          accepted-steps valid (advances tick) (refusal 0 0) is left
+          (removes _ m ∙ ap (register-of (r .setup)) (sym (advanced-left (r .setup) (state-of r) tick is)))

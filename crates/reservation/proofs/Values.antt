@@ -3,7 +3,7 @@ use mathlib.Core.Path.{_≡_, sym, ap, _∙_, subst}
 use mathlib.Core.List.{List, _++_}
 use Prim.Native.Nat.{ℕ, _+_, _-_, _≤_, _<_}
 use native.Mathlib.Omega.{arith}
-use lib.ListN.{length, getD, take, drop, replicate, length-append, length-take, length-drop, length-replicate, getD-replicate, take-append-drop}
+use lib.ListN.{length, getD, take, drop, replicate, length-append, length-drop, length-replicate, getD-replicate, take-append-drop}
 use lib.Seq.{getD-drop, ext-getD, length-take-le, take-append-seam, getD-append-add}
 use Rattle.rules.specs.declared.Row.{Row}
 use Rattle.rules.specs.declared.Setup.{Setup}
@@ -47,7 +47,8 @@ register-same r valid =
 
 -- and the other way round: the register of a bounded state is valid, and stands for it
 pub state-same : (s : Setup) (st : State) → state-of (register-of s st) ≡ st
-state-same s st = ap (λ rows. record { clock = st .clock; rows = rows; total = st .total }) (take-append-seam (st .rows) (replicate (row-limit - length (st .rows)) no-row))
+state-same s st = ap (λ rows. record { calendar = st .calendar; rows = rows; total = st .total })
+    (take-append-seam (st .rows) (replicate (row-limit - length (st .rows)) no-row))
 
 pub register-valid : (s : Setup) (st : State) → Sound s → Bounded s st → Valid (register-of s st)
 register-valid s st sound bounded =

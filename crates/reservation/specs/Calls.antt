@@ -1,10 +1,10 @@
--- A reader must believe this: one definition for each call, which relates its arguments and its result. Document 01, "What each call refuses, in order".
+-- A reader must believe this: one definition for each call, which relates its arguments and its result.
 use mathlib.Core.Path.{_≡_}
 use Prim.Native.Nat.{ℕ}
 use Rattle.rules.specs.declared.Job.{Job}
 use Rattle.rules.specs.declared.Seen.{Seen}
 use Rattle.rules.specs.Words.{view}
-use Rattle.rules.specs.Refusals.{Call, submits, withdraws, moves, step, look}
+use Rattle.rules.specs.Refusals.{Call, submits, withdraws, advances, step, look}
 use Rattle.rules.specs.Demands.{SeenBy}
 use Rattle.reservation.specs.declared.Register.{Register}
 use Rattle.reservation.specs.declared.Reply.{Reply}
@@ -22,8 +22,8 @@ Submits r j result = Steps r (submits j) result
 abbrev pub Withdraws : Register → ℕ → Reply → Type 0
 Withdraws r n result = Steps r (withdraws n) result
 
-abbrev pub Moves : Register → ℕ → Reply → Type 0
-Moves r tick result = Steps r (moves tick) result
+abbrev pub Advances : Register → ℕ → Reply → Type 0
+Advances r tick result = Steps r (advances tick) result
 
 -- Look: what the rules see, and by 01's number and row what demand 1 says of it.
 pub record Looks (r : Register) (m tick : ℕ) (seen : Seen) : Type 0 where

@@ -2,7 +2,6 @@
 use mathlib.Core.Logic.{_↔_, _≢_}
 use mathlib.Core.Path.{_≡_}
 use mathlib.Core.List.{List, [], _∷_}
-use Prim.Native.Nat.{_+_, _≤_}
 use lib.ListN.{length}
 use Rattle.rules.specs.declared.Answer.{Answer}
 use Rattle.rules.specs.declared.Job.{Job}
@@ -21,8 +20,8 @@ use Rattle.reservation.specs.declared.Reply.{Reply}
 use Rattle.reservation.specs.Registers.{state-of, register-of}
 use Rattle.reservation.specs.Calls.{Steps}
 
--- Demand 1: a call's whole answer is that of its first test that refuses, and a refusal leaves the very same register. (What a look answers is `SeenBy`, which its contract
--- has.)
+-- Demand 1: a call's whole answer is that of its first test that refuses, and a refusal leaves the very same register.
+-- (What a look answers is `SeenBy`, which its contract has.)
 pub record Demand1-of-code (r : Register) (c : Rules.Call) (result : Reply) : Type 0 where
   pub answered : AnsweredBy (tests-for (r .setup) (view (state-of r)) c) (result .answer)
   pub untouched : result .answer .number ≢ 0 → result .register ≡ r
@@ -44,8 +43,8 @@ opened s = register-of s fresh
 
 -- a list of calls, whose every step is what the contract of its call ensures
 pub data Trace : Register → List Rules.Call → List Answer → Register → Type 0 where
-  done : {r : Register} → Trace r [] [] r
-  call :
+  ends : {r : Register} → Trace r [] [] r
+  continues :
       {r last : Register} {c : Rules.Call} {calls : List Rules.Call} {replies : List Answer} {result : Reply} →
       Steps r c result → Trace (result .register) calls replies last → Trace r (c ∷ calls) (result .answer ∷ replies) last
 

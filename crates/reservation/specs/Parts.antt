@@ -4,12 +4,11 @@ use mathlib.Core.Bool.{Bool, false}
 use mathlib.Core.List.{List, _++_}
 use Prim.Native.Nat.{ℕ, _+_, _*_, _≤_, _<_}
 use lib.Dec.{leb}
-use lib.ListN.{length, getD, take, replicate}
+use lib.ListN.{length, take, replicate}
 use Rattle.rules.specs.declared.Row.{Row}
 use Rattle.rules.specs.declared.Job.{Job}
 use Rattle.rules.specs.Sequences.{any-of, keep}
-use Rattle.rules.specs.Words.{of-job, row-limit}
-use Rattle.rules.specs.Placing.{no-row}
+use Rattle.rules.specs.Words.{with-clock, State, with-calendar, of-job, row-limit}
 use Rattle.rules.specs.Withdrawing.{remove, ended}
 use Rattle.rules.specs.Refusals.{Call, refusal}
 use Rattle.rules.specs.Bounds.{largest-cost}
@@ -18,8 +17,8 @@ use Rattle.placement.specs.Placements.{most-own, none-placed}
 use Rattle.placement.specs.declared.place.Placement.{Placement}
 use Rattle.reservation.specs.declared.Register.{Register}
 use Rattle.reservation.specs.declared.submission.Verdict.{Verdict}
-use Rattle.reservation.specs.declared.withdrawal.Removal.{Removal}
-use Rattle.reservation.specs.Registers.{state-at, register-of, Valid}
+use Rattle.reservation.specs.declared.removal.Removal.{Removal}
+use Rattle.reservation.specs.Registers.{state-of, register-of, Valid}
 use Rattle.reservation.specs.Calls.{Steps, Submits}
 
 -- Parts of a submission.
@@ -31,19 +30,20 @@ pub record AskAdmit (r : Register) (found : Placement) : Type 0 where
   pub fits : r .count + found .count ≤ row-limit
   pub cost-at-most : found .cost ≤ most-own * largest-cost
 
--- the rows of the job follow those held, and the slots past them are blank
-pub record Admits (r : Register) (found : Placement) (left : Register) : Type 0 where
-  pub setup-is : left .setup ≡ r .setup
-  pub clock-is : left .clock ≡ r .clock
-  pub count-is : left .count ≡ r .count + found .count
-  pub total-is : left .total ≡ r .total + found .cost
-  pub long : length (left .rows) ≡ row-limit
-  pub rows-are : take (left .count) (left .rows) ≡ take (r .count) (r .rows) ++ take (found .count) (found .rows)
-  pub blank : (i : ℕ) → left .count ≤ i → i < row-limit → getD (left .rows) i no-row ≡ no-row
+-- the rows of the job go after the held ones, and their cost is added
+abbrev pub with-found : Register → Placement → State
+with-found r found = record {
+  calendar = state-of r .calendar;
+  rows = state-of r .rows ++ take (found .count) (found .rows);
+  total = r .total + found .cost;
+}
+
+abbrev pub Admits : Register → Placement → Register → Type 0
+Admits r found left = left ≡ register-of (r .setup) (with-found r found)
 
 -- the answer that refuses, and no rows
-abbrev pub refuses : ℕ → ℕ → Verdict
-refuses number task = record { answer = refusal number task; found = none-placed 0 }
+abbrev pub refused-verdict : ℕ → ℕ → Verdict
+refused-verdict number task = record { answer = refusal number task; found = none-placed 0 }
 
 pub record AskSettle (count : ℕ) (found : Placement) : Type 0 where
   pub count-at-most : count ≤ row-limit
@@ -51,8 +51,8 @@ pub record AskSettle (count : ℕ) (found : Placement) : Type 0 where
 
 -- late, too many rows, or admitted
 pub record Settles (count : ℕ) (found : Placement) (v : Verdict) : Type 0 where
-  pub late : (found .late ≡ 0 → ⊥) → v ≡ refuses 7 (found .late)
-  pub full : found .late ≡ 0 → row-limit < count + found .count → v ≡ refuses 8 0
+  pub late : (found .late ≡ 0 → ⊥) → v ≡ refused-verdict 7 (found .late)
+  pub full : found .late ≡ 0 → row-limit < count + found .count → v ≡ refused-verdict 8 0
   pub fits :
       found .late ≡ 0 → count + found .count ≤ row-limit →
       v ≡ record { answer = record { number = 0; task = 0; cost = found .cost; rows = found .count }; found = found }
@@ -102,7 +102,8 @@ RowsEnded jobs finishes count tick mask =
 -- the rows that leave are gone, their cost is taken off, and the clock is the one given
 abbrev pub Removes : Register → (clock : ℕ) → List Bool → Register → Type 0
 Removes r clock mask left =
-    (leaves : Row → Bool) → ColumnOf false leaves (r .rows) (r .count) mask → left ≡ register-of (r .setup) (remove leaves (state-at clock r))
+    (leaves : Row → Bool) → ColumnOf false leaves (r .rows) (r .count) mask →
+    left ≡ register-of (r .setup) (remove leaves (with-calendar (with-clock clock (state-of r .calendar)) (state-of r)))
 
 -- the register without those rows and with that clock is what the call leaves
 abbrev pub RemovalIs : Register → Call → Removal → Type 0

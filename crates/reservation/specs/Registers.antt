@@ -11,17 +11,13 @@ use Rattle.reservation.specs.declared.Register.{Register}
 
 -- the state of the rules that a register stands for
 abbrev pub state-of : Register → State
-state-of r = record { clock = r .clock; rows = take (r .count) (r .rows); total = r .total }
-
--- the same with another clock
-abbrev pub state-at : (clock : ℕ) → Register → State
-state-at clock r = record { clock = clock; rows = state-of r .rows; total = r .total }
+state-of r = record { calendar = record { clock = r .clock }; rows = take (r .count) (r .rows); total = r .total }
 
 -- the one register that stands for a state: the slots past its rows are blank
 abbrev pub register-of : Setup → State → Register
 register-of s st = record {
   setup = s;
-  clock = st .clock;
+  clock = st .calendar .clock;
   count = length (st .rows);
   rows = st .rows ++ replicate (row-limit - length (st .rows)) no-row;
   total = st .total;

@@ -10,7 +10,7 @@ ghost use Rattle.reservation.specs.Kinds.{call-of};
 pub enum Kind {
     Submit,
     Withdraw(u64),
-    Clock(u64),
+    Advance(u64),
 }
 
 pub struct Call {
@@ -30,7 +30,7 @@ impl Register {
                 self.submit(job)
             }
             Kind::Withdraw(number) => self.withdraw(number),
-            Kind::Clock(tick) => self.move_clock(tick),
+            Kind::Advance(tick) => self.advance(tick),
         }
     }
 }

@@ -1,4 +1,5 @@
 // The register: booked rows, a clock and a total, changed by calls alone.
+mod advance;
 pub mod calls;
 mod held;
 mod removal;
@@ -6,7 +7,6 @@ mod sight;
 mod submission;
 mod withdrawal;
 
-use placement::trial::blank;
 use rules::Answer;
 use rules::HORIZON;
 use rules::MESSAGES;
@@ -14,13 +14,14 @@ use rules::ROWS;
 use rules::Row;
 use rules::Setup;
 use rules::TASKS;
+use rules::rows::blank;
 use rules::tables::default_setup;
 ghost use mathlib.Core.Path.{_≡_};
 ghost use Prim.Native.Nat.{_<_};
 ghost use lib.ListN.{getD};
 ghost use Rattle.rules.specs.Words.{fresh, default-setup};
 ghost use Rattle.rules.specs.Placing.{no-row};
-ghost use Rattle.rules.specs.Refusals.{refusal};
+ghost use Rattle.rules.specs.Refusals.{refusal as refusal-of};
 ghost use Rattle.reservation.specs.Registers.{Valid, register-of};
 
 // A register is what it was opened with, its clock, its rows and its total. The slots past the count are blank, so that equal registers are equal values.
@@ -39,8 +40,8 @@ pub struct Reply {
 }
 
 // A refusal by its number, and the task that it names; number 0 is an acceptance.
-pub fn numbered(number: u64, task: u64) -> Answer
-    ensures { λ r. ⌜ r ≡ refusal number task ⌝ }
+pub fn refusal(number: u64, task: u64) -> Answer
+    ensures { λ r. ⌜ r ≡ refusal-of number task ⌝ }
 {
     Answer {
         number: number,

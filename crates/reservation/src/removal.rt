@@ -1,13 +1,33 @@
 // Removing rows: which ones leave, and the register without them.
 use crate::Register;
-use placement::trial::blank;
 use rules::ROWS;
 use rules::Row;
+use rules::rows::blank;
+ghost use mathlib.Core.Path.{_≡_};
 ghost use Prim.Native.Nat.{_≤_};
 ghost use Rattle.rules.specs.Words.{row-limit};
 ghost use Rattle.reservation.specs.Registers.{Valid};
 ghost use Rattle.placement.specs.Columns.{ColumnOf};
-ghost use Rattle.reservation.specs.Parts.{EndedIs, RowsOf, RowsEnded, Removes};
+ghost use Rattle.reservation.specs.Parts.{no-removal, EndedIs, RowsOf, RowsEnded, Removes};
+
+// What a withdrawal or a clock move answers, the clock that it leaves, and which rows leave.
+// The register that is left is made from it at one place: a register is large.
+pub struct Removal {
+    pub number: u64,
+    pub clock: u64,
+    pub leaves: [bool; ROWS],
+}
+
+// A refusal: the clock stays, and no row leaves.
+pub fn no_removal(number: u64, clock: u64) -> Removal
+    ensures { λ r. ⌜ r ≡ no-removal number clock ⌝ }
+{
+    Removal {
+        number: number,
+        clock: clock,
+        leaves: [false; ROWS],
+    }
+}
 
 // The jobs, the starts and the finishes of the rows, gathered once for a call.
 pub struct Figures {
@@ -78,8 +98,8 @@ pub fn rows_of(jobs: &[u64; ROWS], count: usize, number: u64) -> [bool; ROWS]
     leaves
 }
 
-// The rows of jobs whose every row ends at or before the tick. A row still to end settles its job; a row of the same job as the one before takes that answer; else all
-// rows are looked through.
+// The rows of jobs whose every row ends at or before the tick. A row still to end settles its job; a row of the same job as the one
+// before takes that answer; else all rows are looked through.
 pub fn rows_ended<'a>(
     jobs: &'a [u64; ROWS],
     finishes: &'a [u64; ROWS],

@@ -2,7 +2,7 @@
 use crate::Register;
 use crate::Reply;
 use crate::held::is_held;
-use crate::numbered;
+use crate::refusal;
 use feasibility::early;
 use feasibility::first_infeasible;
 use placement::HELD;
@@ -16,7 +16,7 @@ use rules::Job;
 ghost use mathlib.Core.Path.{_≡_};
 ghost use Rattle.reservation.specs.Registers.{Valid};
 ghost use Rattle.reservation.specs.Calls.{Submits};
-ghost use Rattle.reservation.specs.Parts.{refuses, AskSettle, Settles, Judges, AskAdmit, Admits};
+ghost use Rattle.reservation.specs.Parts.{refused-verdict, AskSettle, Settles, Judges, AskAdmit, Admits};
 
 // The answer to a submission, and the rows that it admits: none if it refuses.
 struct Verdict {
@@ -24,11 +24,11 @@ struct Verdict {
     found: Placement,
 }
 
-fn refused(number: u64, task: u64) -> Verdict
-    ensures { λ r. ⌜ r ≡ refuses number task ⌝ }
+fn refused_verdict(number: u64, task: u64) -> Verdict
+    ensures { λ r. ⌜ r ≡ refused-verdict number task ⌝ }
 {
     Verdict {
-        answer: numbered(number, task),
+        answer: refusal(number, task),
         found: without_rows(0),
     }
 }
@@ -39,10 +39,10 @@ fn settled(count: usize, found: Placement) -> Verdict
     ensures { λ r. ⌜ Settles count found r ⌝ }
 {
     if found.late != 0 {
-        return refused(7, found.late);
+        return refused_verdict(7, found.late);
     }
     if Register::ROWS < count + found.count {
-        return refused(8, 0);
+        return refused_verdict(8, 0);
     }
     let answer = Answer {
         number: 0,
@@ -64,7 +64,7 @@ fn judged(register: Register, job: Job) -> Verdict
     let setup = register.setup;
     let number = early(setup, job);
     if number != 0 {
-        return refused(number, 0);
+        return refused_verdict(number, 0);
     }
     let rows = register.rows;
     let count = register.count;
@@ -81,15 +81,16 @@ fn judged(register: Register, job: Job) -> Verdict
         &mut finishes,
     );
     if is_held(&jobs, count, job.number) {
-        return refused(5, 0);
+        return refused_verdict(5, 0);
     }
     let hopeless = first_infeasible(setup, register.clock, job);
     if hopeless != 0 {
-        return refused(6, hopeless);
+        return refused_verdict(6, hopeless);
     }
+    let base = register.clock + job.scheduling;
     let found = place(
         setup,
-        register.clock,
+        base,
         job,
         &mut resources,
         &mut starts,

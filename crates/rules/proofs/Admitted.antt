@@ -1,25 +1,27 @@
--- What an accepted submission has shown: that none of the tests 1 to 8 refuses it, each said by itself.
+-- What an accepted submission has shown: that none of its tests refuses it, each said by itself and found by its number.
 use mathlib.Core.Path.{_≡_, refl, ap}
-use mathlib.Core.Bool.{Bool, true, false}
-use mathlib.Core.List.{List, _∷_}
-use mathlib.Core.Option.{none}
+use mathlib.Core.Bool.{Bool, true, false, cond}
+use mathlib.Core.List.{List, [], _∷_}
+use mathlib.Core.Option.{Option, none}
 use Prim.Native.Nat.{ℕ, _+_, _≤_}
 use native.Mathlib.Omega.{arith}
-use lib.Dec.{ltb}
+use lib.Dec.{ltb, eqb}
 use lib.ListN.{length}
 use borrow.Author.Tests.{ltb-false, le-ltb}
 use Rattle.rules.specs.declared.Job.{Job}
 use Rattle.rules.specs.declared.Setup.{Setup}
 use Rattle.rules.specs.Words.{View, row-limit, largest-number}
 use Rattle.rules.specs.Placing.{Placing, booked, late}
-use Rattle.rules.specs.Refusals.{Test, refuse-if, outside, miscounted, out-of-range, bad-messages, first-infeasible, missed, found, placing, admission, submit-tests, submit-answer}
+use Rattle.rules.specs.Refusals.{Test, refuse-if, outside, miscounted, out-of-range, bad-messages, first-infeasible, missed, found, placing, admission}
+use Rattle.rules.specs.Refusals.{submit-tests, submit-answer}
 use Rattle.rules.specs.Demands.{NoRefusal, end, passes, InRange}
+use Rattle.rules.proofs.Sequences.{by-test}
 use Rattle.rules.proofs.Demand1.{judged-passed, submit-answered}
 
 pub record Admitted (s : Setup) (v : View) (j : Job) : Type 0 where
   pub in-range : InRange s j
   pub not-held : v .held (j .number) ≡ false
-  pub feasible : first-infeasible s (v .clock) j ≡ none
+  pub feasible : first-infeasible s (v .calendar .clock) j ≡ none
   pub rows-found : placing s v j ≡ booked (found (placing s v j))
   pub fits : length (v .rows) + length (found (placing s v j)) ≤ row-limit
 
@@ -37,36 +39,36 @@ unfolding missed found
 booked-not-missed (booked rows) e = refl
 booked-not-missed (late t) e = let z : _≡_ {A = ℕ} 0 1 = cc in absurd (omega arith)
 
-next : {test : Test} {tests : List Test} → NoRefusal (test ∷ tests) → (test .refuses ≡ none) × NoRefusal tests
-next (passes h rest) = (h, rest)
+-- what the test of a number says; none where no test has it
+abbrev pub said-by : ℕ → List Test → Option ℕ
+said-by n [] = none
+said-by n (test ∷ tests) = cond (eqb (test .number) n) (test .refuses) (said-by n tests)
+
+pub none-refuses : {tests : List Test} → NoRefusal tests → (n : ℕ) → said-by n tests ≡ none
+none-refuses end n = refl
+none-refuses (passes {test = test} h rest) n =
+    by-test (eqb (test .number) n) (λ e. rw e h) (λ e. rw e (none-refuses rest n))
 
 module _ (s : Setup) (v : View) (j : Job) where
   pub admitted : submit-answer s v j .number ≡ 0 → Admitted s v j
   unfolding submit-tests
   admitted e =
-      let t1 = next (submit-answered s v j .passed .0 e) in
-      let t2 = next (t1 .1) in
-      let t3 = next (t2 .1) in
-      let t4 = next (t3 .1) in
-      let t5 = next (t4 .1) in
-      let t6 = next (t5 .1) in
-      let t7 = next (t6 .1) in
-      let t8 = next (t7 .1) in
+      let passed : (n : ℕ) → said-by n (submit-tests s v j) ≡ none = none-refuses (submit-answered s v j .passed .0 e) in
       record {
         in-range = record {
-          number = refuse-none (outside 1 largest-number (j .number)) (t1 .0);
-          counts = refuse-none (miscounted j) (t2 .0);
-          figures = refuse-none (out-of-range s j) (t3 .0);
-          messages = refuse-none (bad-messages j) (t4 .0);
+          number = refuse-none (outside 1 largest-number (j .number)) (passed 1);
+          counts = refuse-none (miscounted j) (passed 2);
+          figures = refuse-none (out-of-range s j) (passed 3);
+          messages = refuse-none (bad-messages j) (passed 4);
         };
-        not-held = refuse-none (v .held (j .number)) (t5 .0);
-        feasible = t6 .0;
-        rows-found = not-missed (placing s v j) (t7 .0);
+        not-held = refuse-none (v .held (j .number)) (passed 5);
+        feasible = passed 6;
+        rows-found = not-missed (placing s v j) (passed 7);
         fits =
             ltb-false
             row-limit
             (length (v .rows) + length (found (placing s v j)))
-            (refuse-none (ltb row-limit (length (v .rows) + length (found (placing s v j)))) (t8 .0));
+            (refuse-none (ltb row-limit (length (v .rows) + length (found (placing s v j)))) (passed 8));
       }
 
   pub admits : Admitted s v j → submit-answer s v j .number ≡ 0

@@ -1,8 +1,9 @@
 -- The register's state and the journal agree, whatever is called.
 use mathlib.Core.Path.{_≡_, refl, sym, ap, ap₂, _∙_, subst}
 use mathlib.Core.Logic.{⊎-elim}
-use mathlib.Core.Bool.{Bool, true, false, not, _||_}
-use mathlib.Core.List.{List, [], _∷_, _++_, append-nil, append-assoc, List·Memᴰ, List·Memᴰ·head, List·Memᴰ·tail, List·Memᴰ·append-cases, List·Memᴰ·not-nil, List·Memᴰ·eq-of-singleton}
+use mathlib.Core.Bool.{Bool, false, not, _||_}
+use mathlib.Core.List.{List, [], _∷_, _++_, append-nil, append-assoc, List·Memᴰ, List·Memᴰ·head, List·Memᴰ·tail, List·Memᴰ·append-cases, List·Memᴰ·not-nil}
+use mathlib.Core.List.{List·Memᴰ·eq-of-singleton}
 use Prim.Native.Nat.{ℕ}
 use native.Mathlib.Omega.{arith}
 use lib.Dec.{eqb}
@@ -12,11 +13,11 @@ use Rattle.rules.specs.declared.Job.{Job}
 use Rattle.rules.specs.declared.Setup.{Setup}
 use Rattle.rules.specs.declared.Answer.{Answer}
 use Rattle.rules.specs.Sequences.{any-of, keep, sum-of}
-use Rattle.rules.specs.Words.{State, View, view, fresh, of-job}
+use Rattle.rules.specs.Words.{Calendar, with-clock, State, with-calendar, View, view, fresh, of-job}
 use Rattle.rules.specs.Placing.{costs}
 use Rattle.rules.specs.Withdrawing.{admit, remove, withdraw, ended, advance}
-use Rattle.rules.specs.Refusals.{accepted, submit-answer, withdraw-answer, clock-answer, found, placing}
-use Rattle.rules.specs.Refusals.{Call, submits, withdraws, moves, Step, settle, step, answers, after}
+use Rattle.rules.specs.Refusals.{accepted, submit-answer, withdraw-answer, advance-answer, found, placing}
+use Rattle.rules.specs.Refusals.{Call, submits, withdraws, advances, Step, settle, step, answers, after}
 use Rattle.rules.specs.Journal.{Entry, Journal, empty, entry-of, rows-in, journal-total, journal-view, enter, journal-step}
 use Rattle.rules.proofs.Sequences.{by-test, any-none, any-mem, none-any, any-append, keep-append, keep-all, keep-none, mem-keep, sum-append, sum-split}
 use Rattle.rules.proofs.Admitted.{admitted}
@@ -24,7 +25,7 @@ use Rattle.rules.proofs.Pairs.{Pairwise, end, more, pairwise-keep, pair
 
 -- the state is what the journal comes to, each entry has rows, its cost is theirs and its number is on them, and no two entries share a number
 pub record Agree (st : State) (jn : Journal) : Type 0 where
-  pub clock : st .clock ≡ jn .clock
+  pub calendar : st .calendar ≡ jn .calendar
   pub rows : st .rows ≡ rows-in (jn .entries)
   pub total : st .total ≡ journal-total jn
   pub costed : (e : Entry) → List·Memᴰ e (jn .entries) → e .cost ≡ costs (e .rows)
@@ -92,7 +93,7 @@ keep-alone f {x = x} (more {x = y} h rest) (List·Memᴰ·tail m) = rw (ne-eqb (
 
 pub agree-fresh : Agree fresh empty
 agree-fresh = record {
-  clock = refl;
+  calendar = refl;
   rows = refl;
   total = refl;
   costed = λ e m. absurd (List·Memᴰ·not-nil m);
@@ -110,7 +111,7 @@ module _ {st : State} {jn : Journal} (ag : Agree st jn) where
 
   pub views-agree : view st ≡ journal-view jn
   views-agree = λ i. record {
-    clock = ag .clock i;
+    calendar = ag .calendar i;
     rows = ag .rows i;
     held = λ n. (ap (any-of (of-job n)) (ag .rows) ∙ any-rows _ _ (jn .entries) (numbered n) (ag .nonempty)) i;
     rows-of = λ n. rows-kept (of-job n) (entry-of n) (numbered n) i;
@@ -123,10 +124,11 @@ module _ {st : State} {jn : Journal} (ag : Agree st jn) where
       ∙ ap rows-in (keep-alone (λ d. d .job .number) (ag .distinct) m)
       ∙ append-nil (e .rows)
 
-  -- a clock that is set alike
-  agree-clock : (tick : ℕ) → Agree (record { clock = tick; rows = st .rows; total = st .total }) (record { clock = tick; entries = jn .entries })
-  agree-clock tick = record {
-    clock = refl;
+  -- a calendar that is changed alike
+  agree-calendar : (change : Calendar → Calendar) → Agree (with-calendar (change (st .calendar)) st)
+      (record { calendar = change (jn .calendar); entries = jn .entries })
+  agree-calendar change = record {
+    calendar = ap change (ag .calendar);
     rows = ag .rows;
     total = ag .total;
     costed = ag .costed;
@@ -138,10 +140,10 @@ module _ {st : State} {jn : Journal} (ag : Agree st jn) where
   -- rows and entries removed alike
   agree-remove :
       (p : Row → Bool) (q : Entry → Bool) → Uniform p q (jn .entries) →
-      Agree (remove p st) (record { clock = jn .clock; entries = keep (λ e. not (q e)) (jn .entries) })
+      Agree (remove p st) (record { calendar = jn .calendar; entries = keep (λ e. not (q e)) (jn .entries) })
   unfolding remove
   agree-remove p q h = record {
-    clock = ag .clock;
+    calendar = ag .calendar;
     rows = rows-kept _ (λ e. not (q e)) (λ e m row k. ap not (h e m row k));
     total =
         let was = ag .total in
@@ -163,7 +165,7 @@ module _ {st : State} {jn : Journal} (ag : Agree st jn) where
       ((row : Row) → List·Memᴰ row rows → row .job ≡ j .number) → (row : Row) × List·Memᴰ row rows → Agree (admit st rows) (enter jn j rows)
   unfolding admit enter
   agree-enter j rows new carried nonempty = record {
-    clock = ag .clock;
+    calendar = ag .calendar;
     rows = ap₂ _++_ (ag .rows) (sym (append-nil rows)) ∙ sym (rows-append (jn .entries) (entry ∷ []));
     total =
         let was = ag .total in
@@ -209,10 +211,10 @@ module _ (s : Setup)
       (λ e. rw (views-agree ag) (agree-enter ag j (found (placing s v j)) (admitted s v j e .not-held) (carries v j) (filled v j e)))
   agree-step st jn (withdraws n) ag =
       settle-alike (ap (λ v. withdraw-answer v n) (views-agree ag)) ag (λ e. agree-remove ag (of-job n) (entry-of n) (numbered ag n))
-  agree-step st jn (moves tick) ag =
-      settle-alike (ap (λ v. clock-answer v tick) (views-agree ag)) ag
+  agree-step st jn (advances tick) ag =
+      settle-alike (ap (λ v. advance-answer v tick) (views-agree ag)) ag
       (λ e.
-      agree-remove (agree-clock ag tick) _ (λ d. ended tick (d .rows))
+      agree-remove (agree-calendar ag (with-clock tick)) _ (λ d. ended tick (d .rows))
       (λ d m row k. ap (ended tick) (ap (view st .rows-of) (ag .carried d m row k) ∙ rows-for-entry ag d m)))
 
   pub agree-after :

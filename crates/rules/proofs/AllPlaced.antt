@@ -16,6 +16,8 @@ use Rattle.rules.specs.Words.{task-numbers, View}
 use Rattle.rules.specs.Placing.{is-task, books-task, placed, into, ready, next-task, Trial, trial-rows, try, choice, booked}
 use Rattle.rules.specs.Refusals.{placing}
 use Rattle.rules.specs.Laws.{IsTask, Acyclic, EndsListed}
+use Rattle.rules.specs.Placing.{Ground}
+use Rattle.rules.specs.Refusals.{ground-of}
 use Rattle.rules.proofs.Sequences.{by-test, clash, or-cases, and-true, any-append, keep-same, length-keep, length-numbers, count-some, any-mem}
 use Rattle.rules.proofs.Choice.{task-mem, next-is-next, none-next, choice-kept}
 use Rattle.rules.proofs.Turns.{place-ends}
@@ -24,14 +26,14 @@ use Rattle.rules.proofs.Order.{count-fewer, always-ready}
 
 -- a trial places its task and no other
 pub choice-places :
-    (s : Setup) (clock : ℕ) (held : List Row) (j : Job) (new : List Row) (t : ℕ) (trial : Trial) → choice s clock held j new t ≡ some trial →
+    (s : Setup) (g : Ground) (j : Job) (new : List Row) (t : ℕ) (trial : Trial) → choice s g j new t ≡ some trial →
     (u : ℕ) → placed (trial-rows trial) u ≡ eqb t u
 unfolding is-task
-choice-places s clock held j new t trial e u =
-    let r = choice-kept s clock held j new t trial e in
-    let shape = try-shape s clock held j new t (r .0) in
+choice-places s g j new t trial e u =
+    let r = choice-kept s g j new t trial e in
+    let shape = try-shape s g j new t (r .0) in
     rw
-    (r .1, any-append (books-task u) (try s clock held j new t (r .0) .inputs) (try s clock held j new t (r .0) .own ∷ []))
+    (r .1, any-append (books-task u) (try s g j new t (r .0) .inputs) (try s g j new t (r .0) .own ∷ []))
     (rw (booked-no-task s j new (r .0) (shape .inputs) u, ap (λ row. books-task u row) (shape .own)) (or-false (eqb t u)))
 
 abbrev unplaced : List Row → ℕ → Bool
@@ -44,7 +46,7 @@ ready-unplaced j new t e = and-true (unplaced new t) (all-of (λ msg. placed new
 module _ (s : Setup) (v : View) (j : Job) where
   -- a turn that books leaves fewer tasks unplaced
   fewer-unplaced :
-      (new : List Row) (t : ℕ) (trial : Trial) → next-task j new ≡ some t → choice s (v .clock) (v .rows) j new t ≡ some trial →
+      (new : List Row) (t : ℕ) (trial : Trial) → next-task j new ≡ some t → choice s (ground-of v j) j new t ≡ some trial →
       count-of (unplaced (new ++ trial-rows trial)) (task-numbers j) < count-of (unplaced new) (task-numbers j)
   fewer-unplaced new t trial is kept =
       let next = next-is-next j new t is in
@@ -55,7 +57,7 @@ module _ (s : Setup) (v : View) (j : Job) where
       still : (u : ℕ) → unplaced (new ++ trial-rows trial) u ≡ unplaced new u && not (eqb t u)
       still u =
           rw
-          (any-append (books-task u) new (trial-rows trial), choice-places s (v .clock) (v .rows) j new t trial kept u)
+          (any-append (books-task u) new (trial-rows trial), choice-places s (ground-of v j) j new t trial kept u)
           (by-test (placed new u) (λ h. rw h refl) (λ h. rw h refl))
 
   pub all-placed : (rows : List Row) → Acyclic j → EndsListed j → placing s v j ≡ booked rows → (t : ℕ) → IsTask j t → placed rows t ≡ true
@@ -78,29 +80,29 @@ module _ (s : Setup) (v : View) (j : Job) where
 
       end : (left : ℕ) × Few left rows × ((left ≡ 0) ⊎ (next-task j rows ≡ none))
       end =
-          place-ends s (v .clock) (v .rows) j Few
+          place-ends s (ground-of v j) j Few
           (λ left new u trial is kept few. let fewer = fewer-unplaced new u trial is kept in omega arith)
           all e
 
   -- each task placed had a good trial at its turn
   pub placed-by-good :
       (rows : List Row) → placing s v j ≡ booked rows → (t : ℕ) → placed rows t ≡ true →
-      (new : List Row) × (trial : Trial) × (choice s (v .clock) (v .rows) j new t ≡ some trial)
+      (new : List Row) × (trial : Trial) × (choice s (ground-of v j) j new t ≡ some trial)
   unfolding placing
   placed-by-good rows e t is = end .1 t is
     where
       Good : ℕ → List Row → Type 0
-      Good left rows = (t : ℕ) → placed rows t ≡ true → (new : List Row) × (trial : Trial) × (choice s (v .clock) (v .rows) j new t ≡ some trial)
+      Good left rows = (t : ℕ) → placed rows t ≡ true → (new : List Row) × (trial : Trial) × (choice s (ground-of v j) j new t ≡ some trial)
 
       keeps :
           (left : ℕ) (new : List Row) (u : ℕ) (trial : Trial) →
-          next-task j new ≡ some u → choice s (v .clock) (v .rows) j new u ≡ some trial → Good (suc left) new → Good left (new ++ trial-rows trial)
+          next-task j new ≡ some u → choice s (ground-of v j) j new u ≡ some trial → Good (suc left) new → Good left (new ++ trial-rows trial)
       keeps left new u trial is kept good t h =
-          let placed-now = choice-places s (v .clock) (v .rows) j new u trial kept t in
+          let placed-now = choice-places s (ground-of v j) j new u trial kept t in
           ⊎-elim
           (good t)
-          (λ k. (new, trial, ap (choice s (v .clock) (v .rows) j new) (sym (eqb-true u t (sym placed-now ∙ k))) ∙ kept))
+          (λ k. (new, trial, ap (choice s (ground-of v j) j new) (sym (eqb-true u t (sym placed-now ∙ k))) ∙ kept))
           (or-cases (placed new t) (placed (trial-rows trial) t) (sym (any-append (books-task t) new (trial-rows trial)) ∙ h))
 
       end : (left : ℕ) × Good left rows × ((left ≡ 0) ⊎ (next-task j rows ≡ none))
-      end = place-ends s (v .clock) (v .rows) j Good keeps (λ t h. clash h refl) e
+      end = place-ends s (ground-of v j) j Good keeps (λ t h. clash h refl) e

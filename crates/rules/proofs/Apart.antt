@@ -1,62 +1,57 @@
--- No two rows on one machine or one link share a tick, whatever is called.
+-- Holds of one resource share no tick: what placing finds is apart from all that was held, and from the rest of it.
 use mathlib.Core.Path.{_≡_, refl, sym, ap, _∙_, subst}
 use mathlib.Core.Logic.{⊎-elim}
-use mathlib.Core.Bool.{true}
-use mathlib.Core.List.{List, [], _∷_, _++_, append-nil, append-assoc, map}
+use mathlib.Core.Bool.{Bool}
+use mathlib.Core.List.{List, [], _∷_, _++_, append-nil, append-assoc}
 use mathlib.Core.List.{List·Memᴰ, List·Memᴰ·append-cases, Memᴰ·append-left, Memᴰ·append-right}
 use Prim.Native.Nat.{ℕ, _+_}
 use native.Mathlib.Omega.{arith}
-use borrow.Author.Tests.{eq-eqb}
 use Rattle.rules.specs.declared.Row.{Row}
 use Rattle.rules.specs.declared.Message.{Message}
 use Rattle.rules.specs.declared.Job.{Job}
 use Rattle.rules.specs.declared.Setup.{Setup}
-use Rattle.rules.specs.Words.{Resource, machine, link, same, held-by, resource, span, Within, run-time, State, view, fresh}
-use Rattle.rules.specs.Placing.{least-free, spans-on, transfer, task-row, machine-for, into, release, message-trial, message-trials, all-arrived, trial-rows, try, Placing, booked, late, place, no-row}
-use Rattle.rules.specs.Withdrawing.{admit, remove, withdraw, advance}
-use Rattle.rules.specs.Refusals.{Call, submits, withdraws, moves, step, submit-answer, withdraw-answer, clock-answer, found, placing, after}
+use Rattle.rules.specs.Words.{link, held-by, Within, Hold, hold-of, holds, run-time, View}
+use Rattle.rules.specs.Placing.{Ground, least-free, spans-on, transfer, task-row, machine-for, into, release, message-trial, message-trials, all-arrived}
+use Rattle.rules.specs.Placing.{trial-rows, try}
+use Rattle.rules.specs.Placing.{Placing, booked, late, place, no-row}
+use Rattle.rules.specs.Sequences.{keep}
+use Rattle.rules.specs.Refusals.{ground-of, found, placing}
 use Rattle.rules.specs.Demands.{NoSharedTick}
-use Rattle.rules.proofs.Sequences.{by-test, and-both, keep-mem, mem-map}
-use Rattle.rules.proofs.Pairs.{Pairwise, end, pairwise-keep, pairwise-snoc, pairwise-at}
+use Rattle.rules.proofs.Sequences.{by-test, map-mem}
+use Rattle.rules.proofs.Pairs.{Pairwise, pairwise-keep, pairwise-snoc, pairwise-at, at-pairwise, pairwise-map, map-pairwise}
 use Rattle.rules.proofs.LeastTick.{least-is-least}
-use Rattle.rules.proofs.Steps.{settle-keeps, after-keeps}
+use Rattle.rules.proofs.Resources.{holds-append, one-more, spans-taken}
 use Rattle.rules.proofs.Turns.{place-keeps}
 use Rattle.rules.proofs.Inputs.{crossing, booking, booked-only, try-shape}
 
-abbrev pub Apart : Row → Row → Type 0
-Apart a b = resource a ≡ resource b → (tick : ℕ) → Within tick (span a) → Within tick (span b) → ⊥
+-- two holds of one resource share no tick
+abbrev pub Apart : Hold → Hold → Type 0
+Apart a b = a .on ≡ b .on → (tick : ℕ) → Within tick (a .span) → Within tick (b .span) → ⊥
 
-same-refl : (r : Resource) → same r r ≡ true
-unfolding same
-same-refl (machine m) = eq-eqb m m refl
-same-refl (link a b) = and-both _ _ (eq-eqb a a refl) (eq-eqb b b refl)
-
--- a row at the least free tick of a resource is apart from those that were there
+-- a hold at the least free tick of a resource is apart from those that were there
 found-apart :
-    (rows : List Row) (r : Resource) (from len : ℕ) (row : Row) → resource row ≡ r → row .start ≡ least-free from len (spans-on r rows) →
-    row .finish ≡ row .start + len → (x : Row) → List·Memᴰ x rows → Apart x row
-unfolding spans-on
-found-apart rows r from len row on starts lasts x n alike tick in-x in-row =
-    let is = least-is-least from len (spans-on r rows) in
-    let there = mem-map span (keep-mem (λ row. same (resource row) r) n (rw (alike ∙ on) (same-refl r))) in
-    let low = in-row .0 in
-    let high = in-row .1 in
-    is .is-free tick (omega arith) (omega arith) (span x, there, in-x)
+    (hs : List Hold) (from len : ℕ) (h : Hold) → h .span .start ≡ least-free from len (spans-on (h .on) hs) →
+    h .span .finish ≡ h .span .start + len → (x : Hold) → List·Memᴰ x hs → Apart x h
+found-apart hs from len h starts lasts x n alike tick in-x in-h =
+    let is = least-is-least from len (spans-on (h .on) hs) in
+    let low = in-h .0 in
+    let high = in-h .1 in
+    is .is-free tick (omega arith) (omega arith) (spans-taken (h .on) hs tick .1 (record { hold = x; listed = n; on = alike; within = in-x }))
 
-module _ (s : Setup) (held : List Row) (j : Job) (new : List Row) (m : ℕ) where
+module _ (s : Setup) (held : List Hold) (j : Job) (new : List Row) (m : ℕ) where
   trials-apart :
-      (tried : List Row) (msgs : List Message) → Pairwise Apart (held ++ (new ++ tried)) →
-      Pairwise Apart (held ++ (new ++ message-trials s held j new m tried msgs))
+      (tried : List Row) (msgs : List Message) → Pairwise Apart (held ++ holds (new ++ tried)) →
+      Pairwise Apart (held ++ holds (new ++ message-trials s held j new m tried msgs))
   unfolding message-trials message-trial held-by
   trials-apart tried [] h = h
   trials-apart tried (msg ∷ msgs) h =
       let a = machine-for new (msg .sender) in
-      let before : List Row = held ++ (new ++ tried) in
+      let before : List Hold = held ++ holds (new ++ tried) in
       let from : ℕ = task-row new (msg .sender) .finish in
       let at : ℕ = least-free from (transfer s msg a m) (spans-on (link a m) before) in
       let row : Row = booking s j new m msg at in
-      let regroup : before ++ (row ∷ []) ≡ held ++ (new ++ (tried ++ (row ∷ [])))
-      = append-assoc held (new ++ tried) (row ∷ []) ∙ ap (λ l. held ++ l) (append-assoc new tried (row ∷ [])) in
+      let regroup : before ++ (hold-of row ∷ []) ≡ held ++ holds (new ++ (tried ++ (row ∷ [])))
+      = one-more (held) (new ++ tried) row ∙ ap (λ l. held ++ holds l) (append-assoc new tried (row ∷ [])) in
       by-test
       (crossing s j new m msg)
       (λ c.
@@ -65,31 +60,29 @@ module _ (s : Setup) (held : List Row) (j : Job) (new : List Row) (m : ℕ) wher
       (trials-apart
       (tried ++ (row ∷ []))
       msgs
-      (subst
-      (Pairwise Apart)
-      regroup
-      (pairwise-snoc Apart h (found-apart before (link a m) from (transfer s msg a m) row refl refl refl)))))
+      (subst (Pairwise Apart) regroup (pairwise-snoc Apart h (found-apart before from (transfer s msg a m) (hold-of row) refl refl)))))
       (λ c. rw (c, append-nil tried) (trials-apart tried msgs h))
 
 -- the rows of a turn are apart from all before them, and from each other
 turn-apart :
-    (s : Setup) (clock : ℕ) (held : List Row) (j : Job) (new : List Row) (t m : ℕ) → Pairwise Apart (held ++ new) →
-    Pairwise Apart (held ++ (new ++ trial-rows (try s clock held j new t m)))
+    (s : Setup) (g : Ground) (j : Job) (new : List Row) (t m : ℕ) → Pairwise Apart (g .held ++ holds new) →
+    Pairwise Apart (g .held ++ holds (new ++ trial-rows (try s g j new t m)))
 unfolding try held-by
-turn-apart s clock held j new t m h =
-    let ins : List Row = message-trials s held j new m [] (into j t) in
-    let from : ℕ = all-arrived (new ++ ins) m (release clock j new t) (into j t) in
-    let own : Row = try s clock held j new t m .own in
-    let regroup : (held ++ (new ++ ins)) ++ (own ∷ []) ≡ held ++ (new ++ (ins ++ (own ∷ [])))
-    = append-assoc held (new ++ ins) (own ∷ []) ∙ ap (λ l. held ++ l) (append-assoc new ins (own ∷ [])) in
-    let before : Pairwise Apart (held ++ (new ++ ins))
-    = trials-apart s held j new m [] (into j t) (rw (append-nil new) h) in
-    let booked-before : (x : Row) → List·Memᴰ x (held ++ new) → Apart x own
-    = found-apart (held ++ new) (machine m) from (run-time j t m) own refl refl refl in
-    let an-input : (x : Row) → List·Memᴰ x ins → Apart x own
+turn-apart s g j new t m h =
+    let ins : List Row = message-trials s (g .held) j new m [] (into j t) in
+    let from : ℕ = all-arrived (new ++ ins) m (release g j new t) (into j t) in
+    let own : Row = try s g j new t m .own in
+    let regroup : (g .held ++ holds (new ++ ins)) ++ (hold-of own ∷ []) ≡ g .held ++ holds (new ++ (ins ++ (own ∷ [])))
+    = one-more (g .held) (new ++ ins) own ∙ ap (λ l. g .held ++ holds l) (append-assoc new ins (own ∷ [])) in
+    let before : Pairwise Apart (g .held ++ holds (new ++ ins))
+    = trials-apart s (g .held) j new m [] (into j t) (rw (append-nil new) h) in
+    let held-before : (x : Hold) → List·Memᴰ x (g .held ++ holds new) → Apart x (hold-of own)
+    = found-apart (g .held ++ holds new) from (run-time j t m) (hold-of own) refl refl in
+    let an-input : (x : Hold) → List·Memᴰ x (holds ins) → Apart x (hold-of own)
     = λ x n alike.
-    let b = booked-only s j new m (try-shape s clock held j new t m .inputs) x n in
-    let z : _≡_ {A = ℕ} 0 1 = cc (sym (ap resource (b .4)) ∙ alike) in
+    let made = map-mem hold-of ins n in
+    let b = booked-only s j new m (try-shape s g j new t m .inputs) (made .0) (made .1) in
+    let z : _≡_ {A = ℕ} 0 1 = cc (sym (ap (λ h. h .on) (made .2 ∙ ap hold-of (b .4))) ∙ alike) in
     absurd (omega arith) in
     subst
     (Pairwise Apart)
@@ -99,35 +92,39 @@ turn-apart s clock held j new t m h =
     before
     (λ x n.
     ⊎-elim
-    (λ k. booked-before x (Memᴰ·append-left new k))
-    (λ k. ⊎-elim (λ q. booked-before x (Memᴰ·append-right held q)) (an-input x) (List·Memᴰ·append-cases new k))
-    (List·Memᴰ·append-cases held n)))
+    (λ k. held-before x (Memᴰ·append-left (holds new) k))
+    (λ k.
+    ⊎-elim
+    (λ q. held-before x (Memᴰ·append-right (g .held) q))
+    (an-input x)
+    (List·Memᴰ·append-cases (holds new) (rw (holds-append new ins) at k)))
+    (List·Memᴰ·append-cases (g .held) n)))
 
-pub placing-apart : (s : Setup) (st : State) (j : Job) → Pairwise Apart (st .rows) → Pairwise Apart (st .rows ++ found (placing s (view st) j))
+pub placing-apart : (s : Setup) (v : View) (j : Job) → Pairwise Apart (holds (v .rows)) → Pairwise Apart (holds (v .rows ++ found (placing s v j)))
 unfolding found placing
-placing-apart s st j h = go (place s (st .clock) (st .rows) j) refl
+placing-apart s v j h = rw (holds-append (v .rows) (found (placing s v j))) (go (place s (ground-of v j) j) refl)
   where
-    go : (p : Placing) → place s (st .clock) (st .rows) j ≡ p → Pairwise Apart (st .rows ++ found p)
+    go : (p : Placing) → place s (ground-of v j) j ≡ p → Pairwise Apart (holds (v .rows) ++ holds (found p))
     go (booked rows) e =
         place-keeps
         s
-        (st .clock)
-        (st .rows)
+        (ground-of v j)
         j
-        (λ new. Pairwise Apart (st .rows ++ new))
-        (λ new t m _ _ k. turn-apart s (st .clock) (st .rows) j new t m k)
-        (rw (append-nil (st .rows)) h)
+        (λ new. Pairwise Apart (holds (v .rows) ++ holds new))
+        (λ new t m _ _ k. turn-apart s (ground-of v j) j new t m k)
+        (rw (append-nil (holds (v .rows))) h)
         e
-    go (late t) e = rw (append-nil (st .rows)) h
+    go (late t) e = rw (append-nil (holds (v .rows))) h
 
-abbrev AllApart : State → Type 0
-AllApart st = Pairwise Apart (st .rows)
+abbrev pub AllApart : List Row → Type 0
+AllApart rows = Pairwise Apart (holds rows)
 
-step-apart : (s : Setup) (st : State) (c : Call) → AllApart st → AllApart (step s st c .left)
-unfolding step admit remove withdraw advance
-step-apart s st (submits j) h = settle-keeps AllApart (submit-answer s (view st) j) h (λ _. placing-apart s st j h)
-step-apart s st (withdraws n) h = settle-keeps AllApart (withdraw-answer (view st) n) h (λ _. pairwise-keep Apart _ h)
-step-apart s st (moves tick) h = settle-keeps AllApart (clock-answer (view st) tick) h (λ _. pairwise-keep Apart _ h)
+pub apart-keep : (p : Row → Bool) (rows : List Row) → AllApart rows → AllApart (keep p rows)
+apart-keep p rows h = map-pairwise Apart hold-of (keep p rows) (pairwise-keep _ p (pairwise-map Apart hold-of rows h))
 
-pub no-shared-tick : (s : Setup) (calls : List Call) → NoSharedTick (after (step s) fresh calls .rows)
-no-shared-tick s calls i k = pairwise-at Apart (after-keeps AllApart (step s) (step-apart s) calls fresh end) no-row i k
+-- by position, and back
+pub apart-shares-none : (rows : List Row) → AllApart rows → NoSharedTick rows
+apart-shares-none rows h i k = pairwise-at _ (pairwise-map Apart hold-of rows h) no-row i k
+
+pub shares-none-apart : (rows : List Row) → NoSharedTick rows → AllApart rows
+shares-none-apart rows h = map-pairwise Apart hold-of rows (at-pairwise _ rows no-row (λ i k below within. h i k below within))

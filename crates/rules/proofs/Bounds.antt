@@ -1,4 +1,4 @@
--- Every step keeps the bounds: clock and rows in range, no more rows than the limit, and the total the sum of their costs.
+-- Every step keeps the bounds: clock and rows in range, no more rows than the limit, no shared tick, and the total the sum of their costs.
 use mathlib.Core.Path.{_≡_, refl, ap, _∙_}
 use mathlib.Core.Logic.{⊎-elim}
 use mathlib.Core.Bool.{Bool, true, false, not}
@@ -15,33 +15,39 @@ use Rattle.rules.specs.declared.Row.{Row}
 use Rattle.rules.specs.declared.Message.{Message}
 use Rattle.rules.specs.declared.Job.{Job}
 use Rattle.rules.specs.declared.Setup.{Setup}
-use Rattle.rules.specs.Sequences.{any-of}
+use Rattle.rules.specs.Sequences.{any-of, keep}
 use Rattle.rules.specs.Words.{largest-number, most-tasks, largest-time, horizon, row-limit, link-time, messages-of, task-of, run-time}
-use Rattle.rules.specs.Words.{task-numbers, State, view, fresh, of-job}
-use Rattle.rules.specs.Placing.{task-booking, message-booking, transfer, books-task, books-message, no-row, task-row, message-row, machine-of, machine-for}
+use Rattle.rules.specs.Words.{task-numbers, with-clock, State, with-calendar, view, fresh, of-job}
+use Rattle.rules.specs.Placing.{task-booking, message-booking, transfer, books-task, books-message, no-row, task-row, message-row, machine-of}
+use Rattle.rules.specs.Placing.{machine-for}
 use Rattle.rules.specs.Placing.{placed, crosses, arrival, ready, trial-rows, try, costs, booked, place}
 use Rattle.rules.specs.Withdrawing.{admit, remove, withdraw, advance}
-use Rattle.rules.specs.Refusals.{outside, task-out-of-range, out-of-range, placing, clock-tests, submit-answer, withdraw-answer, clock-answer}
-use Rattle.rules.specs.Refusals.{Call, submits, withdraws, moves, settle, step, after}
+use Rattle.rules.specs.Refusals.{outside, task-out-of-range, out-of-range, placing, advance-tests, submit-answer, withdraw-answer, advance-answer}
+use Rattle.rules.specs.Refusals.{Call, submits, withdraws, advances, settle, step, after}
 use Rattle.rules.specs.Laws.{IsTask, IsNext, IsKept}
 use Rattle.rules.specs.Bounds.{Sound, Between, Listed, task, message, RowInRange, Bounded}
-use Rattle.rules.specs.Demands.{NoRefusal, end, passes, InRange, between, Owed, to-task, to-message}
-use Rattle.rules.proofs.Sequences.{by-test, clash, or-false, and-true, any-mem, any-none, all-mem, mem-keep, length-keep, count-some, first-mem, once-first}
+use Rattle.rules.specs.Demands.{InRange, between, Owed, to-task, to-message}
+use Rattle.rules.specs.Placing.{Ground}
+use Rattle.rules.specs.Refusals.{ground-of}
+use Rattle.rules.proofs.Sequences.{by-test, clash, or-false, and-true, any-mem, any-none, all-mem, mem-keep, length-keep, count-some, first-mem}
+use Rattle.rules.proofs.Sequences.{once-first}
 use Rattle.rules.proofs.Sequences.{sum-append, sum-split, numbers-mem}
 use Rattle.rules.proofs.Choice.{task-mem}
 use Rattle.rules.proofs.Steps.{settle-keeps, after-keeps}
 use Rattle.rules.proofs.Turns.{place-keeps}
 use Rattle.rules.proofs.Inputs.{booked-only, Shape, try-shape}
+use Rattle.rules.proofs.Apart.{AllApart, placing-apart, apart-keep, apart-shares-none, shares-none-apart}
 use Rattle.rules.proofs.Due.{TaskFacts, MessageFacts, Progress, progress-none}
 use Rattle.rules.proofs.Demand1.{demand-1}
-use Rattle.rules.proofs.Order.{in-between, in-range-count, in-range-ends, in-range-volume}
+use Rattle.rules.proofs.Order.{in-between, in-range-count, in-range-ends, in-range-differing, in-range-volume}
 use Rattle.rules.proofs.Differ.{turn-due}
-use Rattle.rules.proofs.Admitted.{refuse-none, admitted}
+use Rattle.rules.proofs.Admitted.{refuse-none, none-refuses, admitted}
 
-listed-machine : {s : Setup} {h : Holder} → Listed s h → Between 1 (s .table .machines) (machine-of h)
+-- the machine of a task, or the sending one of a message
+pub listed-machine : {s : Setup} {h : Holder} → Listed s h → Between 1 (s .table .machines) (machine-of h)
 unfolding machine-of
 listed-machine (task m t) = m
-listed-machine (message a b x y) = a
+listed-machine (message a b x y links tasks) = a
 
 -- The figures of a job in range.
 module _ (s : Setup) (j : Job) (range : InRange s j) where
@@ -95,7 +101,7 @@ module _ (s : Setup) (j : Job) (range : InRange s j) where
           let deadline = task-figures (facts .is-task) .deadline in
           (omega arith, omega arith)
 
-      ends : Owed s j (rows ++ []) row → row .finish ≤ horizon
+      ends : Owed j (rows ++ []) row → row .finish ≤ horizon
       ends (to-task t is h) =
           let there = any-mem (books-task t) n h in
           let most = prog .task-once t in
@@ -106,7 +112,7 @@ module _ (s : Setup) (j : Job) (range : InRange s j) where
           let there : placed rows (msg .receiver) ≡ true
           = by-test (placed rows (msg .receiver)) (λ p. p) (λ p. clash (any-mem (books-message msg) n h) (prog .message-ahead msg p)) in
           let same : message-row rows msg ≡ row = once-first no-row (books-message msg) (prog .message-once msg q there [] c) n h in
-          let crossed : between s j rows msg ≡ true = rw (append-nil rows) at c in
+          let crossed : between rows msg ≡ true = rw (append-nil rows) at c in
           let facts : MessageFacts s j rows msg = rw (append-nil rows) at (prog .message-facts msg q there []) in
           let arrived : message-row rows msg .finish ≤ task-row rows (msg .receiver) .start = rw crossed at (facts .arrived) in
           let by = task-ends (msg .receiver) there in
@@ -135,7 +141,7 @@ module _ (s : Setup) (j : Job) (range : InRange s j) where
         let time : 1 ≤ transfer s msg a b = one-le-mul takes (ltb-true 0 (msg .volume) (both .1)) in
         let tasks = in-range-ends s j range msg n in
         record {
-          holder = message from to (task-listed (tasks .0)) (task-listed (tasks .1));
+          holder = message from to (task-listed (tasks .0)) (task-listed (tasks .1)) apart (in-range-differing s j range msg n);
           job = number-in-range;
           lasts = omega arith;
           ends = ends;
@@ -147,10 +153,10 @@ module _ (s : Setup) (j : Job) (range : InRange s j) where
       pub is-due : Progress s j new
       pub in-range : (row : Row) → List·Memᴰ row new → RowInRange s row
 
-    module _ (clock : ℕ) (held : List Row) where
+    module _ (g : Ground) where
       pub turn-in-bounds :
-          (new : List Row) (t m : ℕ) → IsNext j new t → IsKept s clock held j new t m → InBounds new →
-          InBounds (new ++ trial-rows (try s clock held j new t m))
+          (new : List Row) (t m : ℕ) → IsNext j new t → IsKept s g j new t m → InBounds new →
+          InBounds (new ++ trial-rows (try s g j new t m))
       unfolding ready
       turn-in-bounds new t m next kept before = record {
         is-due = is-due;
@@ -159,20 +165,20 @@ module _ (s : Setup) (j : Job) (range : InRange s j) where
             let ends = ends-in-range is-due row n in
             ⊎-elim
             (before .in-range row)
-            (λ h. ⊎-elim (input row ends) (own row ends) (List·Memᴰ·append-cases (try s clock held j new t m .inputs) h))
+            (λ h. ⊎-elim (input row ends) (own row ends) (List·Memᴰ·append-cases (try s g j new t m .inputs) h))
             (List·Memᴰ·append-cases new n);
       }
         where
-          shape : Shape s clock j new t m (try s clock held j new t m)
-          shape = try-shape s clock held j new t m
+          shape : Shape s g j new t m (try s g j new t m)
+          shape = try-shape s g j new t m
 
-          is-due : Progress s j (new ++ trial-rows (try s clock held j new t m))
-          is-due = turn-due s clock held j range new t m next kept (before .is-due)
+          is-due : Progress s j (new ++ trial-rows (try s g j new t m))
+          is-due = turn-due s g j range new t m next kept (before .is-due)
 
           on : Between 1 (s .table .machines) m
           on = record { first = kept .is-good .is-machine .first; last = kept .is-good .is-machine .last }
 
-          input : (row : Row) → row .finish ≤ horizon → List·Memᴰ row (try s clock held j new t m .inputs) → RowInRange s row
+          input : (row : Row) → row .finish ≤ horizon → List·Memᴰ row (try s g j new t m .inputs) → RowInRange s row
           input row ends n =
               let r = booked-only s j new m (shape .inputs) row n in
               let msg = r .0 in
@@ -181,14 +187,14 @@ module _ (s : Setup) (j : Job) (range : InRange s j) where
               let listed = mem-keep (λ msg. eqb (msg .receiver) t) (messages-of j) (r .1) .0 in
               rw (r .4) (message-in-range msg (machine-for new (msg .sender)) m (r .3) listed (listed-machine (sender .holder)) on (r .2) (rw (r .4) at ends))
 
-          own : (row : Row) → row .finish ≤ horizon → List·Memᴰ row (try s clock held j new t m .own ∷ []) → RowInRange s row
+          own : (row : Row) → row .finish ≤ horizon → List·Memᴰ row (try s g j new t m .own ∷ []) → RowInRange s row
           own row ends n =
-              let same : row ≡ task-booking s j t m (try s clock held j new t m .own .start) = List·Memᴰ·eq-of-singleton n ∙ shape .own in
+              let same : row ≡ task-booking s j t m (try s g j new t m .own .start) = List·Memᴰ·eq-of-singleton n ∙ shape .own in
               rw same (task-in-range t m _ (next .is-task) on (kept .is-good .able) (rw same at ends))
 
-      placing-in-range : {rows : List Row} → place s clock held j ≡ booked rows → (row : Row) → List·Memᴰ row rows → RowInRange s row
+      placing-in-range : {rows : List Row} → place s g j ≡ booked rows → (row : Row) → List·Memᴰ row rows → RowInRange s row
       placing-in-range e =
-          place-keeps s clock held j InBounds turn-in-bounds
+          place-keeps s g j InBounds turn-in-bounds
           (record { is-due = progress-none s j; in-range = λ row n. absurd (List·Memᴰ·not-nil n) })
           e
           .in-range
@@ -196,16 +202,20 @@ module _ (s : Setup) (j : Job) (range : InRange s j) where
 -- The steps.
 
 -- a clock move that is not refused stays within the horizon
-moved-in-range : (s : Setup) (st : State) (tick : ℕ) → step s st (moves tick) .answer .number ≡ 0 → tick ≤ horizon
-unfolding clock-tests
-moved-in-range s st tick e = from (demand-1 s st (moves tick) .answered .passed .0 e)
-  where
-    from : NoRefusal (clock-tests (view st) tick) → tick ≤ horizon
-    from (passes a (passes b end)) = ltb-false horizon tick (refuse-none (ltb horizon tick) b)
+moved-in-range : (s : Setup) (st : State) (tick : ℕ) → step s st (advances tick) .answer .number ≡ 0 → tick ≤ horizon
+unfolding advance-tests
+moved-in-range s st tick e =
+    ltb-false horizon tick (refuse-none (ltb horizon tick) (none-refuses (demand-1 s st (advances tick) .answered .passed .0 e) 12))
 
 module _ (s : Setup) where
   pub bounded-fresh : Bounded s fresh
-  bounded-fresh = record { clock = omega arith; count = omega arith; rows = λ row n. absurd (List·Memᴰ·not-nil n); total = refl }
+  bounded-fresh = record {
+    clock = omega arith;
+    count = omega arith;
+    rows = λ row n. absurd (List·Memᴰ·not-nil n);
+    apart = λ i k below within. absurd (omega arith);
+    total = refl;
+  }
 
   bounded-remove : (leaves : Row → Bool) (st : State) → Bounded s st → Bounded s (remove leaves st)
   unfolding remove
@@ -218,17 +228,22 @@ module _ (s : Setup) where
         clock = b .clock;
         count = omega arith;
         rows = λ row n. b .rows row (mem-keep (λ row. not (leaves row)) (st .rows) n .0);
+        apart =
+            apart-shares-none
+            (keep (λ row. not (leaves row)) (st .rows))
+            (apart-keep (λ row. not (leaves row)) (st .rows) (shares-none-apart (st .rows) (b .apart)));
         total = omega arith;
       }
 
   bounded-admit :
       (st : State) (new : List Row) → length (st .rows) + length new ≤ row-limit → ((row : Row) → List·Memᴰ row new → RowInRange s row) →
-      Bounded s st → Bounded s (admit st new)
+      AllApart (st .rows ++ new) → Bounded s st → Bounded s (admit st new)
   unfolding admit
-  bounded-admit st new room in-range b = record {
+  bounded-admit st new room in-range apart b = record {
     clock = b .clock;
     count = rw (length-append (st .rows) new) room;
     rows = λ row n. ⊎-elim (b .rows row) (in-range row) (List·Memᴰ·append-cases (st .rows) n);
+    apart = apart-shares-none (st .rows ++ new) apart;
     total = rw (sum-append (λ row. row .cost) (st .rows) new) (ap (λ x. x + costs new) (b .total));
   }
 
@@ -238,12 +253,18 @@ module _ (s : Setup) where
     bounded-step st (submits j) b =
         settle-keeps (Bounded s) (submit-answer s (view st) j) b λ e.
         let a = admitted s (view st) j e in
-        bounded-admit st _ (a .fits) (placing-in-range s j (a .in-range) sound (st .clock) (st .rows) (a .rows-found)) b
+        bounded-admit
+        st
+        _
+        (a .fits)
+        (placing-in-range s j (a .in-range) sound (ground-of (view st) j) (a .rows-found))
+        (placing-apart s (view st) j (shares-none-apart (st .rows) (b .apart)))
+        b
     bounded-step st (withdraws n) b = settle-keeps (Bounded s) (withdraw-answer (view st) n) b (λ e. bounded-remove (of-job n) st b)
-    bounded-step st (moves tick) b =
-        settle-keeps (Bounded s) (clock-answer (view st) tick) b λ e.
-        bounded-remove _ (record { clock = tick; rows = st .rows; total = st .total })
-        (record { clock = moved-in-range s st tick e; count = b .count; rows = b .rows; total = b .total })
+    bounded-step st (advances tick) b =
+        settle-keeps (Bounded s) (advance-answer (view st) tick) b λ e.
+        bounded-remove _ (with-calendar (with-clock tick (st .calendar)) st)
+        (record { clock = moved-in-range s st tick e; count = b .count; rows = b .rows; apart = b .apart; total = b .total })
 
     pub bounded-after : (calls : List Call) → Bounded s (after (step s) fresh calls)
     bounded-after calls = after-keeps (Bounded s) (step s) bounded-step calls fresh bounded-fresh

@@ -15,6 +15,7 @@ use Rattle.rules.specs.Sequences.{keep, precedes, prior, foremost}
 use Rattle.rules.specs.Words.{machines, task-numbers, task-of, run-time}
 use Rattle.rules.specs.Placing.{ready, next-task, Trial, trial-rows, costs, machine-of, try, good, good-trials, choice}
 use Rattle.rules.specs.Laws.{IsTask, IsNext, IsGood, IsKept}
+use Rattle.rules.specs.Placing.{Ground}
 use Rattle.rules.proofs.Sequences.{by-test, clash, or-cases, or-left, or-false, and-true, and-cases}
 use Rattle.rules.proofs.Sequences.{keep-mem, mem-keep, mem-map, map-mem, mem-numbers, numbers-mem}
 
@@ -141,27 +142,27 @@ none-next j new e u h =
 
 -- The trial kept.
 
-module _ (s : Setup) (clock : ℕ) (held : List Row) (j : Job) (new : List Row) (t : ℕ) where
+module _ (s : Setup) (g : Ground) (j : Job) (new : List Row) (t : ℕ) where
   able : ℕ → Bool
   able m = ltb 0 (run-time j t m)
 
-  pub good-mem : (m : ℕ) → IsGood s clock held j new t m → List·Memᴰ (try s clock held j new t m) (good-trials s clock held j new t)
+  pub good-mem : (m : ℕ) → IsGood s g j new t m → List·Memᴰ (try s g j new t m) (good-trials s g j new t)
   unfolding good-trials good able
-  good-mem m g = keep-mem (good s clock held j new t) (mem-map (try s clock held j new t) tried) (le-leb _ _ (g .in-time))
+  good-mem m fine = keep-mem (good s g j new t) (mem-map (try s g j new t) tried) (le-leb _ _ (fine .in-time))
     where
       listed : List·Memᴰ m (machines s)
-      listed = numbers-mem 1 (s .table .machines) m (g .is-machine .first) (omega arith)
+      listed = numbers-mem 1 (s .table .machines) m (fine .is-machine .first) (omega arith)
 
       tried : List·Memᴰ m (keep able (machines s))
-      tried = keep-mem able listed (lt-ltb 0 (run-time j t m) (g .able))
+      tried = keep-mem able listed (lt-ltb 0 (run-time j t m) (fine .able))
 
   pub mem-good :
-      {trial : Trial} → List·Memᴰ trial (good-trials s clock held j new t) →
-      (m : ℕ) × (trial ≡ try s clock held j new t m) × IsGood s clock held j new t m
+      {trial : Trial} → List·Memᴰ trial (good-trials s g j new t) →
+      (m : ℕ) × (trial ≡ try s g j new t m) × IsGood s g j new t m
   unfolding good-trials good able
   mem-good mem =
-      let kept = mem-keep (good s clock held j new t) (map (try s clock held j new t) (keep able (machines s))) mem in
-      let made = map-mem (try s clock held j new t) (keep able (machines s)) (kept .0) in
+      let kept = mem-keep (good s g j new t) (map (try s g j new t) (keep able (machines s))) mem in
+      let made = map-mem (try s g j new t) (keep able (machines s)) (kept .0) in
       let tried = mem-keep able (machines s) (made .1) in
       let listed = mem-numbers 1 (s .table .machines) (tried .0) in
       let h = listed .1 in (
@@ -170,38 +171,38 @@ module _ (s : Setup) (clock : ℕ) (held : List Row) (j : Job) (new : List Row) 
         record {
           is-machine = record { first = listed .0; last = omega arith };
           able = ltb-true 0 (run-time j t (made .0)) (tried .1);
-          in-time = leb-true _ _ (ap (good s clock held j new t) (sym (made .2)) ∙ kept .1);
+          in-time = leb-true _ _ (ap (good s g j new t) (sym (made .2)) ∙ kept .1);
         },
       )
 
   -- a trial chosen is kept: no good one has figures before its own
   chosen-kept :
-      (m : ℕ) → IsGood s clock held j new t m → choice s clock held j new t ≡ some (try s clock held j new t m) → IsKept s clock held j new t m
+      (m : ℕ) → IsGood s g j new t m → choice s g j new t ≡ some (try s g j new t m) → IsKept s g j new t m
   unfolding choice try machine-of
-  chosen-kept m g e = record {
-    is-good = g;
+  chosen-kept m fine e = record {
+    is-good = fine;
     cheapest = λ k h. by-cost k h .0;
     soonest = λ k h p. precedes-false _ _ (by-cost k h .1 p) .0;
     lowest = λ k h p q. precedes-false _ _ (precedes-false _ _ (by-cost k h .1 p) .1 q) .0;
   }
     where
       cost : ℕ → ℕ
-      cost k = costs (trial-rows (try s clock held j new t k))
+      cost k = costs (trial-rows (try s g j new t k))
 
       others : ℕ → List ℕ
-      others k = try s clock held j new t k .own .start ∷ k ∷ []
+      others k = try s g j new t k .own .start ∷ k ∷ []
 
-      by-cost : (k : ℕ) → IsGood s clock held j new t k → (cost m ≤ cost k) × (cost k ≡ cost m → precedes (others k) (others m) ≡ false)
-      by-cost k h = precedes-false _ _ (foremost-first _ (good-trials s clock held j new t) e (good-mem k h))
+      by-cost : (k : ℕ) → IsGood s g j new t k → (cost m ≤ cost k) × (cost k ≡ cost m → precedes (others k) (others m) ≡ false)
+      by-cost k h = precedes-false _ _ (foremost-first _ (good-trials s g j new t) e (good-mem k h))
 
   pub choice-kept :
-      (trial : Trial) → choice s clock held j new t ≡ some trial →
-      (m : ℕ) × (trial ≡ try s clock held j new t m) × IsKept s clock held j new t m
+      (trial : Trial) → choice s g j new t ≡ some trial →
+      (m : ℕ) × (trial ≡ try s g j new t m) × IsKept s g j new t m
   unfolding choice
   choice-kept trial e =
-      let r = mem-good (foremost-mem _ (good-trials s clock held j new t) e) in
+      let r = mem-good (foremost-mem _ (good-trials s g j new t) e) in
       (r .0, r .1, chosen-kept (r .0) (r .2) (e ∙ ap some (r .1)))
 
-  pub no-choice : choice s clock held j new t ≡ none → (m : ℕ) → IsGood s clock held j new t m → ⊥
+  pub no-choice : choice s g j new t ≡ none → (m : ℕ) → IsGood s g j new t m → ⊥
   unfolding choice
-  no-choice e m g = foremost-empty _ e (good-mem m g)
+  no-choice e m fine = foremost-empty _ e (good-mem m fine)

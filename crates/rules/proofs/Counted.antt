@@ -84,7 +84,7 @@ module _ (s : Setup) (j : Job) (rows : List Row) (prog : Progress s j rows) wher
       (placed rows (msg .receiver))
       (λ p.
       by-test
-      (between s j (rows ++ []) msg)
+      (between (rows ++ []) msg)
       (λ c. let one = prog .message-once msg n p [] c in omega arith)
       (λ c. none (prog .message-absent msg n p [] c)))
       (λ p. none (prog .message-ahead msg p))
@@ -100,7 +100,7 @@ module _ (s : Setup) (j : Job) (rows : List Row) (prog : Progress s j rows) wher
       (List·Memᴰ·append-cases (map inl (task-numbers j)) n)
 
   -- a row that is owed is that of a task or of a message
-  each-booked : (row : Row) → Owed s j (rows ++ []) row → any-of (λ b. books b row) (bookable j) ≡ true
+  each-booked : (row : Row) → Owed j (rows ++ []) row → any-of (λ b. books b row) (bookable j) ≡ true
   each-booked row (to-task t is h) = any-mem (λ b. books b row) (Memᴰ·append-left (map inr (messages-of j)) (mem-map inl (task-mem j t is))) h
   each-booked row (to-message msg n c h) = any-mem (λ b. books b row) (Memᴰ·append-right (map inl (task-numbers j)) (mem-map inr n)) h
 

@@ -4,22 +4,22 @@ use mathlib.Core.Logic.{_↔_, _≢_}
 use mathlib.Core.Bool.{true, false}
 use mathlib.Core.List.{List, [], _∷_, map, List·Memᴰ, List·Memᴰ·head, List·Memᴰ·tail, List·Memᴰ·not-nil}
 use mathlib.Core.Option.{Option, none, some, Option·none-ne-some, Option·some-injective}
-use Prim.Native.Nat.{ℕ, _≤_}
+use Prim.Native.Nat.{ℕ}
 use native.Mathlib.Omega.{arith}
-use lib.Dec.{eqb}
-use borrow.Author.Tests.{eqb-true, eq-eqb, ne-eqb}
+use lib.Dec.{ltb, eqb}
+use borrow.Author.Tests.{ltb-true, eqb-true, eq-eqb, ne-eqb}
 use Rattle.rules.specs.declared.Row.{Row}
 use Rattle.rules.specs.declared.Job.{Job}
 use Rattle.rules.specs.declared.Setup.{Setup}
 use Rattle.rules.specs.declared.Answer.{Answer}
 use Rattle.rules.specs.declared.Seen.the-variants.{NoMachine}
-use Rattle.rules.specs.Sequences.{any-of, keep, numbers}
+use Rattle.rules.specs.Sequences.{any-of, all-of, keep}
 use Rattle.rules.specs.Words.{machines, State, View, view}
-use Rattle.rules.specs.Refusals.{Test, judged, refusal, submit-tests, withdraw-tests, clock-tests, submit-answer, withdraw-answer, clock-answer}
-use Rattle.rules.specs.Refusals.{Call, submits, withdraws, moves, settle, step, look, running, seen-in}
-use Rattle.rules.specs.Demands.{FirstRefusal, here, later, NoRefusal, end, passes, AnsweredBy, Demand1, SeenBy, Demand1-look}
+use Rattle.rules.specs.Refusals.{Test, judged, refusal, submit-tests, withdraw-tests, advance-tests, submit-answer, withdraw-answer, advance-answer}
+use Rattle.rules.specs.Refusals.{Call, submits, withdraws, advances, settle, step, look, running, seen-in}
+use Rattle.rules.specs.Demands.{FirstRefusal, here, later, NoRefusal, end, passes, AnsweredBy, numbers-for, Demand1, SeenBy, Demand1-look}
 use Rattle.rules.specs.Laws.{IsMachine, RunsAt}
-use Rattle.rules.proofs.Sequences.{by-test, clash, any-mem, any-witness, mem-map, mem-keep, keep-mem, mem-numbers, numbers-mem}
+use Rattle.rules.proofs.Sequences.{by-test, clash, any-mem, any-witness, all-mem, mem-map, mem-keep, keep-mem, mem-numbers, numbers-mem}
 use Rattle.rules.proofs.Resources.{running-says}
 
 -- a test cannot both pass and refuse
@@ -82,13 +82,13 @@ judged-passed passed end = refl
 judged-passed passed (passes {test = test} {tests = tests} h rest) =
     ap (by-refusal (judged passed tests) (test .number)) h ∙ judged-passed passed rest
 
--- the same of tests numbered in turn, from 1 or more on
-in-turn :
-    (passed : Answer) (tests : List Test) (a n : ℕ) → passed .number ≡ 0 → 1 ≤ a → map (λ test. test .number) tests ≡ numbers a n →
-    AnsweredBy tests (judged passed tests)
-in-turn passed tests a n zero-passed from e =
-    judged-by passed tests zero-passed λ test m.
-    let range = mem-numbers a n (subst (List·Memᴰ (test .number)) e (mem-map (λ test. test .number) m)) in
+-- the same where the tests have these numbers, none of which is 0
+with-numbers :
+    (passed : Answer) (tests : List Test) (numbers : List ℕ) → passed .number ≡ 0 → all-of (ltb 0) numbers ≡ true →
+    map (λ test. test .number) tests ≡ numbers → AnsweredBy tests (judged passed tests)
+with-numbers passed tests numbers zero-passed above e =
+    judged-by passed tests zero-passed λ test m z.
+    let positive = ltb-true 0 (test .number) (all-mem (ltb 0) above (subst (List·Memᴰ (test .number)) e (mem-map (λ test. test .number) m))) in
     omega arith
 
 -- a refusal leaves the register as it was
@@ -98,10 +98,10 @@ settled a old changed ne = rw (ne-eqb (a .number) 0 ne) refl
 
 pub submit-answered : (s : Setup) (v : View) (j : Job) → AnsweredBy (submit-tests s v j) (submit-answer s v j)
 unfolding submit-answer submit-tests
-submit-answered s v j = in-turn _ (submit-tests s v j) 1 8 refl (omega arith) refl
+submit-answered s v j = with-numbers _ (submit-tests s v j) (numbers-for (submits j)) refl refl refl
 
 pub demand-1 : (s : Setup) (st : State) (c : Call) → Demand1 s st c
-unfolding step settle submit-answer withdraw-answer clock-answer submit-tests withdraw-tests clock-tests
+unfolding step settle submit-answer withdraw-answer advance-answer submit-tests withdraw-tests advance-tests
 demand-1 s st (submits j) = record {
   numbered = refl;
   answered = submit-answered s (view st) j;
@@ -109,13 +109,13 @@ demand-1 s st (submits j) = record {
 }
 demand-1 s st (withdraws n) = record {
   numbered = refl;
-  answered = in-turn _ (withdraw-tests (view st) n) 9 2 refl (omega arith) refl;
+  answered = with-numbers _ (withdraw-tests (view st) n) (numbers-for (withdraws n)) refl refl refl;
   untouched = settled (withdraw-answer (view st) n) st _;
 }
-demand-1 s st (moves tick) = record {
+demand-1 s st (advances tick) = record {
   numbered = refl;
-  answered = in-turn _ (clock-tests (view st) tick) 11 2 refl (omega arith) refl;
-  untouched = settled (clock-answer (view st) tick) st _;
+  answered = with-numbers _ (advance-tests (view st) tick) (numbers-for (advances tick)) refl refl refl;
+  untouched = settled (advance-answer (view st) tick) st _;
 }
 
 -- the machines looked for are those numbered 1 to the table's count

@@ -10,9 +10,10 @@ use Rattle.rules.specs.declared.Setup.{Setup}
 use Rattle.rules.specs.Sequences.{precedes}
 use Rattle.rules.specs.Words.{messages-of}
 use Rattle.rules.specs.Placing.{trial-rows, try}
-use Rattle.rules.specs.Refusals.{listing}
+use Rattle.rules.specs.Refusals.{message-order}
 use Rattle.rules.specs.Laws.{IsNext, IsKept}
 use Rattle.rules.specs.Demands.{InRange}
+use Rattle.rules.specs.Placing.{Ground}
 use Rattle.rules.proofs.Sequences.{clash}
 use Rattle.rules.proofs.Pairs.{Pairwise, at-pairwise}
 use Rattle.rules.proofs.Choice.{precedes-irrefl}
@@ -20,10 +21,10 @@ use Rattle.rules.proofs.Order.{distinct-listed}
 use Rattle.rules.proofs.Inputs.{Differ, try-shape}
 use Rattle.rules.proofs.Due.{Progress, progress-turn}
 
-precedes-differ : (x y : Message) → precedes (listing x) (listing y) ≡ true → Differ x y
+precedes-differ : (x y : Message) → precedes (message-order x) (message-order y) ≡ true → Differ x y
 precedes-differ x y e same =
-    let alike : precedes (listing y) (listing y) ≡ true = rw (same .sender, same .receiver) at e in
-    clash alike (precedes-irrefl (listing y))
+    let alike : precedes (message-order y) (message-order y) ≡ true = rw (same .sender, same .receiver) at e in
+    clash alike (precedes-irrefl (message-order y))
 
 pub in-range-differ : (s : Setup) (j : Job) → InRange s j → Pairwise Differ (messages-of j)
 in-range-differ s j range = at-pairwise Differ (messages-of j) blank (λ i k h b. precedes-differ _ _ (distinct-listed s j range blank i k h b))
@@ -32,8 +33,8 @@ in-range-differ s j range = at-pairwise Differ (messages-of j) blank (λ i k h b
     blank = record { sender = 0; receiver = 0; volume = 0 }
 
 pub turn-due :
-    (s : Setup) (clock : ℕ) (held : List Row) (j : Job) → InRange s j → (new : List Row) (t m : ℕ) →
-    IsNext j new t → IsKept s clock held j new t m → Progress s j new → Progress s j (new ++ trial-rows (try s clock held j new t m))
-turn-due s clock held j range new t m next kept =
-    progress-turn s clock j (in-range-differ s j range) new t m (try s clock held j new t m) (try-shape s clock held j new t m) (next .is-task)
+    (s : Setup) (g : Ground) (j : Job) → InRange s j → (new : List Row) (t m : ℕ) →
+    IsNext j new t → IsKept s g j new t m → Progress s j new → Progress s j (new ++ trial-rows (try s g j new t m))
+turn-due s g j range new t m next kept =
+    progress-turn s g j (in-range-differ s j range) new t m (try s g j new t m) (try-shape s g j new t m) (next .is-task)
     (next .is-ready) (kept .is-good .is-machine) (kept .is-good .able) (kept .is-good .in-time)

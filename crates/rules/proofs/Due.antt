@@ -13,15 +13,19 @@ use Rattle.rules.specs.declared.Row.{Row}
 use Rattle.rules.specs.declared.Message.{Message}
 use Rattle.rules.specs.declared.Job.{Job}
 use Rattle.rules.specs.declared.Setup.{Setup}
-use Rattle.rules.specs.Sequences.{any-of, all-of, count-of, keep}
+use Rattle.rules.specs.Sequences.{any-of, all-of, count-of}
 use Rattle.rules.specs.Words.{messages-of, task-of, run-time}
 use Rattle.rules.specs.Placing.{transfer, is-task, is-message, books-task, books-message, no-row}
-use Rattle.rules.specs.Placing.{task-row, message-row, machine-of, machine-for, placed, crosses, arrival, into, ready, release, all-arrived, Trial, trial-rows}
+use Rattle.rules.specs.Placing.{task-row, message-row, machine-of, machine-for, placed, crosses, arrival, into, ready, release, all-arrived, Trial}
+use Rattle.rules.specs.Placing.{trial-rows}
 use Rattle.rules.specs.Demands.{between, Owed, to-task, to-message}
 use Rattle.rules.specs.Laws.{IsMachine, IsTask}
-use Rattle.rules.proofs.Sequences.{by-test, clash, and-true, or-cases, any-append, or-right, or-false, all-mem, mem-keep, keep-mem, count-append, count-none, first-append, first-skip}
+use Rattle.rules.specs.Placing.{Ground}
+use Rattle.rules.proofs.Sequences.{by-test, clash, and-true, or-cases, any-append, or-right, or-false, all-mem, mem-keep, keep-mem, count-append}
+use Rattle.rules.proofs.Sequences.{count-none, first-append, first-skip}
 use Rattle.rules.proofs.Pairs.{Pairwise, pairwise-keep}
-use Rattle.rules.proofs.Inputs.{Differ, same-pair-same, crossing, booking, booked-no-task, booked-only, booked-none, booked-found, Found, arrives-by, Shape, pair-books}
+use Rattle.rules.proofs.Inputs.{Differ, same-pair-same, crossing, booking, booked-no-task, booked-only, booked-none, booked-found, Found, arrives-by}
+use Rattle.rules.proofs.Inputs.{Shape, pair-books}
 
 -- an arrival stays what it is while rows are added, once the sender is placed and the message's row, if it takes one, is there
 pub arrival-stays :
@@ -49,14 +53,14 @@ module _ (s : Setup) (j : Job) (rows : List Row) where
   -- of a message into a placed task
   pub record MessageFacts (msg : Message) : Type 0 where
     pub its-link :
-        between s j rows msg ≡ true →
+        between rows msg ≡ true →
         message-row rows msg .holder
         ≡ MessageOn (machine-for rows (msg .sender)) (machine-for rows (msg .receiver)) (msg .sender) (msg .receiver)
     pub due :
-        between s j rows msg ≡ true →
+        between rows msg ≡ true →
         message-row rows msg .finish
         ≡ message-row rows msg .start + transfer s msg (machine-for rows (msg .sender)) (machine-for rows (msg .receiver))
-    pub after-sender : between s j rows msg ≡ true → task-row rows (msg .sender) .finish ≤ message-row rows msg .start
+    pub after-sender : between rows msg ≡ true → task-row rows (msg .sender) .finish ≤ message-row rows msg .start
     pub arrived : arrival rows msg (machine-for rows (msg .receiver)) ≤ task-row rows (msg .receiver) .start
 
 -- what holds of the rows booked so far, whatever rows follow
@@ -67,13 +71,13 @@ pub record Progress (s : Setup) (j : Job) (new : List Row) : Type 0 where
       (msg : Message) → List·Memᴰ msg (messages-of j) → placed new (msg .receiver) ≡ true → (ext : List Row) → MessageFacts s j (new ++ ext) msg
   pub message-once :
       (msg : Message) → List·Memᴰ msg (messages-of j) → placed new (msg .receiver) ≡ true → (ext : List Row) →
-      between s j (new ++ ext) msg ≡ true → count-of (books-message msg) new ≡ 1
+      between (new ++ ext) msg ≡ true → count-of (books-message msg) new ≡ 1
   pub message-absent :
       (msg : Message) → List·Memᴰ msg (messages-of j) → placed new (msg .receiver) ≡ true → (ext : List Row) →
-      between s j (new ++ ext) msg ≡ false → any-of (books-message msg) new ≡ false
+      between (new ++ ext) msg ≡ false → any-of (books-message msg) new ≡ false
   -- no message has a row before its receiver has one
   pub message-ahead : (msg : Message) → placed new (msg .receiver) ≡ false → any-of (books-message msg) new ≡ false
-  pub owed : (row : Row) → List·Memᴰ row new → (ext : List Row) → Owed s j (new ++ ext) row
+  pub owed : (row : Row) → List·Memᴰ row new → (ext : List Row) → Owed j (new ++ ext) row
 
 pub progress-none : (s : Setup) (j : Job) → Progress s j []
 progress-none s j = record {
@@ -89,13 +93,13 @@ progress-none s j = record {
 -- One turn: task t on machine m, by a trial of that shape.
 module _
     (s : Setup)
-    (clock : ℕ)
+    (g : Ground)
     (j : Job)
     (differ : Pairwise Differ (messages-of j))
     (new : List Row)
     (t m : ℕ)
     (trial : Trial)
-    (shape : Shape s clock j new t m trial)
+    (shape : Shape s g j new t m trial)
     (listed : IsTask j t)
     (is-ready : ready j new t ≡ true)
     (is-machine : IsMachine s m)
@@ -156,7 +160,7 @@ module _
     receiver-machine : (msg : Message) → List·Memᴰ msg (into j t) → (ext : List Row) → machine-for (booked ++ ext) (msg .receiver) ≡ m
     receiver-machine msg n ext = ap (machine-for (booked ++ ext)) (into-listed msg n .1) ∙ machine-own ext
 
-    crossing-same : (msg : Message) → List·Memᴰ msg (into j t) → (ext : List Row) → between s j (booked ++ ext) msg ≡ crossing s j new m msg
+    crossing-same : (msg : Message) → List·Memᴰ msg (into j t) → (ext : List Row) → between (booked ++ ext) msg ≡ crossing s j new m msg
     crossing-same msg n ext = rw (sender-found msg n ext, receiver-machine msg n ext) refl
 
     ahead : Progress s j new → (msg : Message) → List·Memᴰ msg (into j t) → any-of (books-message msg) new ≡ false
@@ -185,12 +189,13 @@ module _
         let row-there : crosses msg (machine-for so-far (msg .sender)) m ≡ true → any-of (books-message msg) so-far ≡ true
         = λ h.
         let c : crossing s j new m msg ≡ true = rw sender-same at h in
-        any-append (books-message msg) new (trial .inputs) ∙ or-right (any-of (books-message msg) new) (any-of (books-message msg) (trial .inputs)) (found-input msg n c .some-row) in
+        any-append (books-message msg) new (trial .inputs) ∙ or-right (any-of (books-message msg) new) (any-of (books-message msg) (trial .inputs))
+        (found-input msg n c .some-row) in
         let stays : arrival (so-far ++ (trial .own ∷ ext)) msg m ≡ arrival so-far msg m
         = arrival-stays so-far (trial .own ∷ ext) msg m sender-there row-there in
         let split : booked ++ ext ≡ so-far ++ (trial .own ∷ ext) = regroup ext ∙ sym (append-assoc new (trial .inputs) (trial .own ∷ ext)) in
-        let by : arrival so-far msg m ≤ all-arrived so-far m (release clock j new t) (into j t)
-        = arrives-by so-far m (release clock j new t) n in
+        let by : arrival so-far msg m ≤ all-arrived so-far m (release g j new t) (into j t)
+        = arrives-by so-far m (release g j new t) n in
         let waited = shape .waits in
         rw (split, stays) (omega arith)
 
@@ -222,7 +227,7 @@ module _
 
     input-facts : Progress s j new → (msg : Message) → List·Memᴰ msg (into j t) → (ext : List Row) → MessageFacts s j (booked ++ ext) msg
     input-facts prog msg n ext =
-        let crossed : between s j (booked ++ ext) msg ≡ true → crossing s j new m msg ≡ true = λ h. sym (crossing-same msg n ext) ∙ h in
+        let crossed : between (booked ++ ext) msg ≡ true → crossing s j new m msg ≡ true = λ h. sym (crossing-same msg n ext) ∙ h in
         record {
           its-link = λ h. input-row prog msg n ext (crossed h) .0;
           due = λ h. input-row prog msg n ext (crossed h) .1;
@@ -306,10 +311,12 @@ module _
         let own : count-of (books-task u) (trial .own ∷ []) ≡ 0 = rw (own-task u, h) refl in
         omega arith)
 
-    no-rows-turn : (msg : Message) → any-of (books-message msg) new ≡ false → any-of (books-message msg) (trial .inputs) ≡ false → any-of (books-message msg) booked ≡ false
+    no-rows-turn : (msg : Message) → any-of (books-message msg) new ≡ false → any-of (books-message msg) (trial .inputs) ≡ false →
+        any-of (books-message msg) booked ≡ false
     no-rows-turn msg a b = rw (any-booked (books-message msg), a, b, own-no-message msg) refl
 
-    rows-turn : (msg : Message) (a b : ℕ) → count-of (books-message msg) new ≡ a → count-of (books-message msg) (trial .inputs) ≡ b → count-of (books-message msg) booked ≡ a + b
+    rows-turn : (msg : Message) (a b : ℕ) → count-of (books-message msg) new ≡ a → count-of (books-message msg) (trial .inputs) ≡ b →
+        count-of (books-message msg) booked ≡ a + b
     rows-turn msg a b p q =
         let all = count-booked (books-message msg) in
         let own : count-of (books-message msg) (trial .own ∷ []) ≡ 0 = rw (own-no-message msg) refl in
@@ -373,7 +380,7 @@ module _
           (List·Memᴰ·append-cases new n);
     }
       where
-        input-owed : (row : Row) (ext : List Row) → List·Memᴰ row (trial .inputs) → Owed s j (booked ++ ext) row
+        input-owed : (row : Row) (ext : List Row) → List·Memᴰ row (trial .inputs) → Owed j (booked ++ ext) row
         input-owed row ext h =
             let r = booked-only s j new m (shape .inputs) row h in
             let msg = r .0 in
@@ -386,5 +393,5 @@ module _
             (sym (r .4))
             (pair-books s j msg msg (machine-for new (msg .sender)) m (r .3) (record { sender = refl; receiver = refl })))
 
-        own-owed : (row : Row) (ext : List Row) → List·Memᴰ row (trial .own ∷ []) → Owed s j (booked ++ ext) row
+        own-owed : (row : Row) (ext : List Row) → List·Memᴰ row (trial .own ∷ []) → Owed j (booked ++ ext) row
         own-owed row ext h = to-task t listed (rw (List·Memᴰ·eq-of-singleton h) own-is)

@@ -13,10 +13,12 @@ use Rattle.rules.specs.declared.Message.{Message}
 use Rattle.rules.specs.declared.Job.{Job}
 use Rattle.rules.specs.declared.Setup.{Setup}
 use Rattle.rules.specs.Sequences.{any-of, count-of}
-use Rattle.rules.specs.Words.{Span, machine, link, messages-of, run-time}
+use Rattle.rules.specs.Words.{Span, machine, link, Hold, holds, messages-of, run-time}
 use Rattle.rules.specs.Placing.{least-free, spans-on, task-booking, message-booking, transfer, is-task, is-message, books-task, books-message}
-use Rattle.rules.specs.Placing.{task-row, message-row, machine-for, crosses, arrival, into, release, message-trial, message-trials, all-arrived, Trial, try}
+use Rattle.rules.specs.Placing.{task-row, message-row, machine-for, crosses, arrival, into, release, message-trial, message-trials, all-arrived, Trial}
+use Rattle.rules.specs.Placing.{try}
 use Rattle.rules.specs.Laws.{NotBefore, Task-starts, Message-starts}
+use Rattle.rules.specs.Placing.{Ground}
 use Rattle.rules.proofs.Sequences.{by-test, clash, and-true, and-both, count-none, mem-keep, keep-mem}
 use Rattle.rules.proofs.Pairs.{Pairwise, more}
 use Rattle.rules.proofs.LeastTick.{least-is-least}
@@ -66,13 +68,13 @@ module _ (s : Setup) (j : Job) (new : List Row) (m : ℕ) where
         Booked rows msgs → Booked (booking msg at ∷ rows) (msg ∷ msgs)
 
   pub message-trials-book :
-      (held tried : List Row) (msgs : List Message) →
+      (held : List Hold) (tried : List Row) (msgs : List Message) →
       (rows : List Row) × (message-trials s held j new m tried msgs ≡ tried ++ rows) × Booked rows msgs
   unfolding message-trials message-trial
   message-trials-book held tried [] = ([], sym (append-nil tried), none)
   message-trials-book held tried (msg ∷ msgs) =
       let a = machine-for new (msg .sender) in
-      let spans : List Span = spans-on (link a m) (held ++ (new ++ tried)) in
+      let spans : List Span = spans-on (link a m) (held ++ holds (new ++ tried)) in
       let at : ℕ = least-free (task-row new (msg .sender) .finish) (transfer s msg a m) spans in
       let row : Row = booking msg at in
       by-test
@@ -195,38 +197,38 @@ arrived-at-most rows b from (msg ∷ msgs) x h by =
     omega arith
 
 -- the shape of a trial of machine m for task t
-pub record Shape (s : Setup) (clock : ℕ) (j : Job) (new : List Row) (t m : ℕ) (trial : Trial) : Type 0 where
+pub record Shape (s : Setup) (g : Ground) (j : Job) (new : List Row) (t m : ℕ) (trial : Trial) : Type 0 where
   pub inputs : Booked s j new m (trial .inputs) (into j t)
   pub own : trial .own ≡ task-booking s j t m (trial .own .start)
-  pub waits : all-arrived (new ++ trial .inputs) m (release clock j new t) (into j t) ≤ trial .own .start
+  pub waits : all-arrived (new ++ trial .inputs) m (release g j new t) (into j t) ≤ trial .own .start
 
-pub try-shape : (s : Setup) (clock : ℕ) (held : List Row) (j : Job) (new : List Row) (t m : ℕ) → Shape s clock j new t m (try s clock held j new t m)
+pub try-shape : (s : Setup) (g : Ground) (j : Job) (new : List Row) (t m : ℕ) → Shape s g j new t m (try s g j new t m)
 unfolding try
-try-shape s clock held j new t m =
-    let r = message-trials-book s j new m held [] (into j t) in
-    let ins : List Row = message-trials s held j new m [] (into j t) in
-    let from : ℕ = all-arrived (new ++ ins) m (release clock j new t) (into j t) in
+try-shape s g j new t m =
+    let r = message-trials-book s j new m (g .held) [] (into j t) in
+    let ins : List Row = message-trials s (g .held) j new m [] (into j t) in
+    let from : ℕ = all-arrived (new ++ ins) m (release g j new t) (into j t) in
     record {
       inputs = subst (λ rows. Booked s j new m rows (into j t)) (sym (r .1)) (r .2);
       own = refl;
-      waits = least-is-least from (run-time j t m) (spans-on (machine m) (held ++ new)) .not-before;
+      waits = least-is-least from (run-time j t m) (spans-on (machine m) (g .held ++ holds new)) .not-before;
     }
 
 -- a tick is not before all arrivals and the floor exactly if it is not before each of them
 all-arrived-says :
-    (clock : ℕ) (j : Job) (new rows : List Row) (t m : ℕ) (x : ℕ) →
-    (all-arrived rows m (release clock j new t) (into j t) ≤ x) ↔ NotBefore clock j new rows t m x
-all-arrived-says clock j new rows t m x = (
+    (g : Ground) (j : Job) (new rows : List Row) (t m : ℕ) (x : ℕ) →
+    (all-arrived rows m (release g j new t) (into j t) ≤ x) ↔ NotBefore g j new rows t m x
+all-arrived-says g j new rows t m x = (
   λ h. record {
-    floor = let by = from-arrived rows m (release clock j new t) (into j t) in omega arith;
+    floor = let by = from-arrived rows m (release g j new t) (into j t) in omega arith;
     arrivals =
         λ msg n e.
         let its = keep-mem (λ msg. eqb (msg .receiver) t) n (eq-eqb (msg .receiver) t e) in
-        let by = arrives-by rows m (release clock j new t) its in
+        let by = arrives-by rows m (release g j new t) its in
         omega arith;
   },
   λ h.
-      arrived-at-most rows m (release clock j new t) (into j t) x (h .floor) λ msg n.
+      arrived-at-most rows m (release g j new t) (into j t) x (h .floor) λ msg n.
       let r = mem-keep (λ msg. eqb (msg .receiver) t) (messages-of j) n in
       h .arrivals msg (r .0) (eqb-true (msg .receiver) t (r .1)),
 )
@@ -234,15 +236,15 @@ all-arrived-says clock j new rows t m x = (
 -- the law of a task's start
 pub task-starts : Task-starts
 unfolding try
-task-starts s clock held j new t m =
-    let rows : List Row = new ++ message-trials s held j new m [] (into j t) in
+task-starts s g j new t m =
+    let rows : List Row = new ++ message-trials s (g .held) j new m [] (into j t) in
     least-on
     (machine m)
-    (held ++ new)
-    (all-arrived rows m (release clock j new t) (into j t))
+    (g .held ++ holds new)
+    (all-arrived rows m (release g j new t) (into j t))
     (run-time j t m)
-    (NotBefore clock j new rows t m)
-    (all-arrived-says clock j new rows t m)
+    (NotBefore g j new rows t m)
+    (all-arrived-says g j new rows t m)
 
 -- the law of a message's start
 pub message-starts : Message-starts
@@ -250,8 +252,8 @@ unfolding message-trial
 message-starts s held j new m tried msg h =
     let a = machine-for new (msg .sender) in
     let from : ℕ = task-row new (msg .sender) .finish in
-    let rows : List Row = held ++ (new ++ tried) in (
-      least-free from (transfer s msg a m) (spans-on (link a m) rows),
+    let hs : List Hold = held ++ holds (new ++ tried) in (
+      least-free from (transfer s msg a m) (spans-on (link a m) hs),
       rw h refl,
-      least-on (link a m) rows from (transfer s msg a m) (λ tick. from ≤ tick) (λ x. (λ k. k, λ k. k)),
+      least-on (link a m) hs from (transfer s msg a m) (λ tick. from ≤ tick) (λ x. (λ k. k, λ k. k)),
     )

@@ -1,5 +1,6 @@
 -- The laws of the definitions, and demands 1 to 3 proved of them.
 pub mod Sequences
+pub mod Sums
 pub mod Pairs
 pub mod Choice
 pub mod Indexed

@@ -1,6 +1,6 @@
 -- The order of a job's messages and tasks: listed messages ascend strictly, no chain of them leads back, and so some unplaced task is always ready.
 use mathlib.Core.Path.{_≡_, refl, sym, ap, subst}
-use mathlib.Core.Logic.{⊎-elim}
+use mathlib.Core.Logic.{_≢_, ⊎-elim}
 use mathlib.Core.Bool.{Bool, true, false, not, _&&_}
 use mathlib.Core.List.{List, [], _∷_, map, List·Memᴰ, List·Memᴰ·head, List·Memᴰ·tail}
 use Prim.Native.Nat.{ℕ, zero, suc, _+_, _≤_, _<_}
@@ -15,7 +15,7 @@ use Rattle.rules.specs.declared.Setup.{Setup}
 use Rattle.rules.specs.Sequences.{any-of, all-of, cons-if, keep, count-of, precedes}
 use Rattle.rules.specs.Words.{largest-volume, most-tasks, most-messages, messages-of, task-numbers}
 use Rattle.rules.specs.Placing.{placed, into, ready}
-use Rattle.rules.specs.Refusals.{outside, miscounted, message-out-of-range, listing, ascending, bad-messages}
+use Rattle.rules.specs.Refusals.{outside, miscounted, message-out-of-range, message-order, ascending, bad-messages}
 use Rattle.rules.specs.Laws.{IsTask, Chain, one, on, Acyclic, EndsListed}
 use Rattle.rules.specs.Demands.{InRange}
 use Rattle.rules.proofs.Sequences.{by-test, clash, or-false, and-true, and-both, and-cases, any-mem, any-witness, any-none, mem-keep, count-some}
@@ -66,9 +66,9 @@ module _ (s : Setup) (j : Job) (range : InRange s j) where
   in-range-messages =
       ltb-false most-messages (j .messagecount) (or-false (outside 1 most-tasks (j .taskcount)) (ltb most-messages (j .messagecount)) (range .counts) .1)
 
-  listed-order : (any-of (message-out-of-range j) (messages-of j) ≡ false) × (not (ascending (map listing (messages-of j))) ≡ false)
+  listed-order : (any-of (message-out-of-range j) (messages-of j) ≡ false) × (not (ascending (map message-order (messages-of j))) ≡ false)
   unfolding bad-messages
-  listed-order = or-false (any-of (message-out-of-range j) (messages-of j)) (not (ascending (map listing (messages-of j)))) (range .messages)
+  listed-order = or-false (any-of (message-out-of-range j) (messages-of j)) (not (ascending (map message-order (messages-of j)))) (range .messages)
 
   message-in-range :
       (msg : Message) → List·Memᴰ msg (messages-of j) →
@@ -94,19 +94,22 @@ module _ (s : Setup) (j : Job) (range : InRange s j) where
   pub in-range-lower : (msg : Message) → List·Memᴰ msg (messages-of j) → msg .sender < msg .receiver
   in-range-lower msg m = message-in-range msg m .2
 
+  pub in-range-differing : (msg : Message) → List·Memᴰ msg (messages-of j) → msg .sender ≢ msg .receiver
+  in-range-differing msg m e = let below = message-in-range msg m .2 in omega arith
+
   pub in-range-volume : (msg : Message) → List·Memᴰ msg (messages-of j) → msg .volume ≤ largest-volume
   in-range-volume msg m = message-in-range msg m .3
 
   -- of two listed messages, by position, the earlier one's receiver and sender precede the later one's
   pub distinct-listed :
       (d : Message) (i k : ℕ) → i < k → k < length (messages-of j) →
-      precedes (listing (getD (messages-of j) i d)) (listing (getD (messages-of j) k d)) ≡ true
+      precedes (message-order (getD (messages-of j) i d)) (message-order (getD (messages-of j) k d)) ≡ true
   distinct-listed d i k h b =
       rw
       (← figures-at (messages-of j) i (omega arith), ← figures-at (messages-of j) k b)
-      (ascending-pairs (map listing (messages-of j)) (not-false _ (listed-order .1)) i k h (rw length-map b))
+      (ascending-pairs (map message-order (messages-of j)) (not-false _ (listed-order .1)) i k h (rw length-map b))
     where
-      figures-at : (l : List Message) (n : ℕ) → n < length l → getD (map listing l) n [] ≡ listing (getD l n d)
+      figures-at : (l : List Message) (n : ℕ) → n < length l → getD (map message-order l) n [] ≡ message-order (getD l n d)
       figures-at [] n h = absurd (omega arith)
       figures-at (x ∷ l) zero h = refl
       figures-at (x ∷ l) (suc n) h = figures-at l n (omega arith)

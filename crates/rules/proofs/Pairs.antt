@@ -2,12 +2,13 @@
 use mathlib.Core.Path.{refl, sym, subst}
 use mathlib.Core.Logic.{⊎-elim}
 use mathlib.Core.Bool.{Bool, true, false}
-use mathlib.Core.List.{List, [], _∷_, _++_, List·Memᴰ, List·Memᴰ·head, List·Memᴰ·tail, List·Memᴰ·append-cases, Memᴰ·append-right, Memᴰ·append-left, List·Memᴰ·cases-cons, List·Memᴰ·not-nil}
+use mathlib.Core.List.{List, [], _∷_, _++_, map, List·Memᴰ, List·Memᴰ·head, List·Memᴰ·tail, List·Memᴰ·append-cases, Memᴰ·append-right, Memᴰ·append-left}
+use mathlib.Core.List.{List·Memᴰ·cases-cons, List·Memᴰ·not-nil}
 use Prim.Native.Nat.{ℕ, zero, suc, _<_}
 use native.Mathlib.Omega.{arith}
 use lib.ListN.{length, getD}
 use Rattle.rules.specs.Sequences.{keep, cons-if}
-use Rattle.rules.proofs.Sequences.{mem-keep, mem-getD, getD-mem}
+use Rattle.rules.proofs.Sequences.{mem-keep, mem-getD, getD-mem, mem-map, map-mem}
 
 module _ {A : Type 0} (R : A → A → Type 0) where
   pub data Pairwise : List A → Type 0 where
@@ -62,3 +63,14 @@ module _ {A : Type 0} (R : A → A → Type 0) where
       more {x = x} {xs = xs}
       (λ y m. let r = mem-getD d m in subst (R x) (r .2) (h zero (suc (r .0)) (omega arith) (let b = r .1 in omega arith)))
       (at-pairwise xs d (λ i k a b. h (suc i) (suc k) (omega arith) (omega arith)))
+
+-- what holds of the pairs of a list that is made of another one, element by element, holds of the pairs of that one, and back
+module _ {A B : Type 0} (R : B → B → Type 0) (f : A → B) where
+  pub pairwise-map : (l : List A) → Pairwise R (map f l) → Pairwise (λ a b. R (f a) (f b)) l
+  pairwise-map [] h = end
+  pairwise-map (x ∷ xs) (more h rest) = more (λ y m. h (f y) (mem-map f m)) (pairwise-map xs rest)
+
+  pub map-pairwise : (l : List A) → Pairwise (λ a b. R (f a) (f b)) l → Pairwise R (map f l)
+  map-pairwise [] h = end
+  map-pairwise (x ∷ xs) (more h rest) =
+      more (λ y m. let made = map-mem f xs m in subst (R (f x)) (sym (made .2)) (h (made .0) (made .1))) (map-pairwise xs rest)

@@ -1,18 +1,18 @@
 -- Resources and the rows on them: when two resources are the same, when a row runs on a machine, and which ticks of a resource are taken.
-use mathlib.Core.Path.{_≡_, refl, sym, ap, subst}
+use mathlib.Core.Path.{_≡_, refl, sym, ap, _∙_}
 use mathlib.Core.Logic.{_↔_}
-use mathlib.Core.Bool.{true, _&&_}
-use mathlib.Core.List.{List, map, List·Memᴰ}
-use Prim.Native.Nat.{ℕ, _≤_, _<_}
+use mathlib.Core.Bool.{_&&_}
+use mathlib.Core.List.{List, [], _∷_, _++_, append-assoc}
+use Prim.Native.Nat.{ℕ, _≤_}
 use native.Mathlib.Omega.{arith}
 use lib.Dec.{ltb, leb, eqb}
 use borrow.Author.Tests.{eqb-true, eq-eqb, ltb-true, lt-ltb, leb-true, le-leb}
 use Rattle.rules.specs.declared.Row.{Row}
 use Rattle.rules.specs.Sequences.{keep}
-use Rattle.rules.specs.Words.{Span, Resource, machine, link, same, resource, span}
+use Rattle.rules.specs.Words.{Resource, machine, link, same, resource, Hold, hold-of, holds}
 use Rattle.rules.specs.Placing.{spans-on, least-free}
 use Rattle.rules.specs.Refusals.{running}
-use Rattle.rules.specs.Laws.{Same-says, RunsAt, Running-says, Taken, TakenOn, FreeOn, IsLeastOn}
+use Rattle.rules.specs.Laws.{Same-says, Running-says, Taken, TakenOn, IsLeastOn}
 use Rattle.rules.proofs.Sequences.{clash, and-true, and-both, mem-map, map-mem, mem-keep, keep-mem}
 use Rattle.rules.proofs.LeastTick.{least-is-least}
 
@@ -58,36 +58,45 @@ running-says m tick row = (
       (lt-ltb tick (row .finish) (runs .within .1))),
 )
 
--- the spans of a resource take the ticks that its rows hold
-pub spans-taken : (r : Resource) (rows : List Row) (tick : ℕ) → Taken (spans-on r rows) tick ↔ TakenOn r rows tick
+-- What rows hold.
+
+pub holds-append : (a b : List Row) → holds (a ++ b) ≡ holds a ++ holds b
+holds-append [] b = refl
+holds-append (row ∷ a) b = ap (λ l. hold-of row ∷ l) (holds-append a b)
+
+pub one-more : (hs : List Hold) (rows : List Row) (row : Row) → (hs ++ holds rows) ++ (hold-of row ∷ []) ≡ hs ++ holds (rows ++ (row ∷ []))
+one-more hs rows row = append-assoc hs (holds rows) (hold-of row ∷ []) ∙ ap (λ l. hs ++ l) (sym (holds-append rows (row ∷ [])))
+
+-- the spans of a resource take the ticks that its holds have
+pub spans-taken : (r : Resource) (hs : List Hold) (tick : ℕ) → Taken (spans-on r hs) tick ↔ TakenOn r hs tick
 unfolding spans-on
-spans-taken r rows tick = (
+spans-taken r hs tick = (
   λ taken.
-      let made = map-mem span (keep (λ row. same (resource row) r) rows) (taken .1) in
-      let kept = mem-keep (λ row. same (resource row) r) rows (made .1) in
+      let made = map-mem (λ h. h .span) (keep (λ h. same (h .on) r) hs) (taken .1) in
+      let kept = mem-keep (λ h. same (h .on) r) hs (made .1) in
       record {
-        row = made .0;
+        hold = made .0;
         listed = kept .0;
-        on = same-says (resource (made .0)) r .0 (kept .1);
+        on = same-says (made .0 .on) r .0 (kept .1);
         within = rw (made .2) at (taken .2);
       },
   λ taken. (
-    span (taken .row),
-    mem-map span (keep-mem (λ row. same (resource row) r) (taken .listed) (same-says (resource (taken .row)) r .1 (taken .on))),
+    taken .hold .span,
+    mem-map (λ h. h .span) (keep-mem (λ h. same (h .on) r) (taken .listed) (same-says (taken .hold .on) r .1 (taken .on))),
     taken .within,
   ),
 )
 
 -- the tick found among the spans of a resource is the least that is allowed, where those allowed are those not before `from`
 pub least-on :
-    (r : Resource) (rows : List Row) (from len : ℕ) (Allowed : ℕ → Type 0) → ((x : ℕ) → (from ≤ x) ↔ Allowed x) →
-    IsLeastOn r rows len Allowed (least-free from len (spans-on r rows))
-least-on r rows from len Allowed allows =
-    let least = least-is-least from len (spans-on r rows) in
+    (r : Resource) (hs : List Hold) (from len : ℕ) (Allowed : ℕ → Type 0) → ((x : ℕ) → (from ≤ x) ↔ Allowed x) →
+    IsLeastOn r hs len Allowed (least-free from len (spans-on r hs))
+least-on r hs from len Allowed allows =
+    let least = least-is-least from len (spans-on r hs) in
     record {
-      allowed = allows (least-free from len (spans-on r rows)) .0 (least .not-before);
-      is-free = λ x low high taken. least .is-free x low high (spans-taken r rows x .1 taken);
+      allowed = allows (least-free from len (spans-on r hs)) .0 (least .not-before);
+      is-free = λ x low high taken. least .is-free x low high (spans-taken r hs x .1 taken);
       none-earlier =
           λ x ok below is-free.
-          least .none-earlier x (allows x .1 ok) below (λ y low high taken. is-free y low high (spans-taken r rows y .0 taken));
+          least .none-earlier x (allows x .1 ok) below (λ y low high taken. is-free y low high (spans-taken r hs y .0 taken));
     }

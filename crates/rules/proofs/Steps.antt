@@ -1,6 +1,5 @@
 -- What holds of a fresh start and is kept by each call holds after every list of calls.
 use mathlib.Core.Path.{_≡_}
-use mathlib.Core.Bool.{true}
 use mathlib.Core.List.{List, [], _∷_}
 use borrow.Author.Tests.{eqb-true}
 use Rattle.rules.specs.declared.Answer.{Answer}

@@ -3,11 +3,10 @@ use mathlib.Core.Path.{_≡_, refl, sym, ap, _∙_}
 use mathlib.Core.Bool.{false}
 use mathlib.Core.List.{List, [], _∷_}
 use Prim.Native.Nat.{suc}
-use lib.ListN.{length}
 use Rattle.rules.specs.declared.Setup.{Setup}
 use Rattle.rules.specs.Sequences.{keep}
 use Rattle.rules.specs.Words.{State}
-use Rattle.rules.specs.Refusals.{accepted, Call, submits, withdraws, moves, Step, settle, step, answers, after, struck}
+use Rattle.rules.specs.Refusals.{accepted, Call, submits, withdraws, advances, Step, settle, step, answers, after, struck}
 use Rattle.rules.specs.Laws.{Replies-counted}
 use Rattle.rules.proofs.Sequences.{by-test}
 
@@ -43,4 +42,4 @@ pub step-still : (s : Setup) (st : State) (c : Call) → accepted (step s st c .
 unfolding step settle
 step-still s st (submits j) h = rw h
 step-still s st (withdraws n) h = rw h
-step-still s st (moves tick) h = rw h
+step-still s st (advances tick) h = rw h

@@ -1,6 +1,8 @@
--- A reader must believe this: the tables that a register may be opened with, and beside demand 3 the bounds that every step keeps. Each call asks them of its register and ensures them again.
+-- A reader must believe this: the tables that a register may be opened with, and beside demand 3 what every step keeps. Each call asks it of its register and
+-- ensures it again.
 use mathlib.Core.Path.{_≡_}
-use mathlib.Core.List.{List, List·Memᴰ}
+use mathlib.Core.Logic.{_≢_}
+use mathlib.Core.List.{List·Memᴰ}
 use Prim.Native.Nat.{ℕ, _≤_, _<_}
 use lib.ListN.{length}
 use Rattle.rules.specs.declared.Holder.{Holder}
@@ -9,6 +11,7 @@ use Rattle.rules.specs.declared.Row.{Row}
 use Rattle.rules.specs.declared.Setup.{Setup}
 use Rattle.rules.specs.Words.{largest-number, most-tasks, most-machines, horizon, row-limit, rate, link-time, link-rate, State}
 use Rattle.rules.specs.Placing.{costs}
+use Rattle.rules.specs.Demands.{NoSharedTick}
 
 -- the largest rate of a machine or a link, the largest link time, and the largest cost of a row that they give
 abbrev pub largest-rate : ℕ
@@ -32,12 +35,12 @@ pub record Between (low high n : ℕ) : Type 0 where
   pub first : low ≤ n
   pub last : n ≤ high
 
--- a holder's machines are the table's, its tasks in range
+-- a holder's machines are the table's and its tasks in range; the two machines of a link differ, and so do the two tasks of a message
 pub data Listed (s : Setup) : Holder → Type 0 where
   task : {m t : ℕ} → Between 1 (s .table .machines) m → Between 1 most-tasks t → Listed s (TaskOn m t)
   message :
       {a b x y : ℕ} → Between 1 (s .table .machines) a → Between 1 (s .table .machines) b →
-      Between 1 most-tasks x → Between 1 most-tasks y → Listed s (MessageOn a b x y)
+      Between 1 most-tasks x → Between 1 most-tasks y → a ≢ b → x ≢ y → Listed s (MessageOn a b x y)
 
 pub record RowInRange (s : Setup) (row : Row) : Type 0 where
   pub holder : Listed s (row .holder)
@@ -48,7 +51,8 @@ pub record RowInRange (s : Setup) (row : Row) : Type 0 where
 
 -- what every step keeps of a register
 pub record Bounded (s : Setup) (st : State) : Type 0 where
-  pub clock : st .clock ≤ horizon
+  pub clock : st .calendar .clock ≤ horizon
   pub count : length (st .rows) ≤ row-limit
   pub rows : (row : Row) → List·Memᴰ row (st .rows) → RowInRange s row
+  pub apart : NoSharedTick (st .rows)
   pub total : st .total ≡ costs (st .rows)

@@ -14,13 +14,14 @@ use Rattle.rules.specs.declared.Setup.{Setup}
 use Rattle.rules.specs.declared.Answer.{Answer}
 use Rattle.rules.specs.declared.Seen.{Seen}
 use Rattle.rules.specs.declared.Seen.the-variants.{Idle}
-use Rattle.rules.specs.Sequences.{keep, count-of, numbers}
+use Rattle.rules.specs.Sequences.{keep, count-of}
 use Rattle.rules.specs.Words.{Within, resource, span, largest-number, row-limit, messages-of, task-of, run-time}
 use Rattle.rules.specs.Words.{State, View, view, fresh, of-job}
 use Rattle.rules.specs.Placing.{books-task, books-message, no-row, task-row, message-row, machine-for, placed, crosses, arrival, transfer, costs, booked}
 use Rattle.rules.specs.Withdrawing.{admit}
-use Rattle.rules.specs.Refusals.{Test, submit-tests, withdraw-tests, clock-tests, placing, look, seen-number, seen-row}
-use Rattle.rules.specs.Refusals.{outside, miscounted, out-of-range, bad-messages, accepted, Call, submits, withdraws, moves, step, answers, after, struck}
+use Rattle.rules.specs.Refusals.{Test, submit-tests, withdraw-tests, advance-tests, placing, look, seen-number, seen-row}
+use Rattle.rules.specs.Refusals.{outside, miscounted, out-of-range, bad-messages, accepted, Call, submits, withdraws, advances, step, answers, after}
+use Rattle.rules.specs.Refusals.{struck}
 use Rattle.rules.specs.Journal.{Entry, Journal, empty, rows-in, journal-total, journal-step}
 use Rattle.rules.specs.Laws.{IsMachine, IsTask, RunsAt}
 
@@ -45,12 +46,12 @@ pub record AnsweredBy (tests : List Test) (a : Answer) : Type 0 where
 abbrev pub tests-for : Setup → View → Call → List Test
 tests-for s v (submits j) = submit-tests s v j
 tests-for s v (withdraws n) = withdraw-tests v n
-tests-for s v (moves tick) = clock-tests v tick
+tests-for s v (advances tick) = advance-tests v tick
 
 abbrev pub numbers-for : Call → List ℕ
-numbers-for (submits j) = numbers 1 8
-numbers-for (withdraws n) = numbers 9 2
-numbers-for (moves tick) = numbers 11 2
+numbers-for (submits j) = 1 ∷ 2 ∷ 3 ∷ 4 ∷ 5 ∷ 6 ∷ 7 ∷ 8 ∷ []
+numbers-for (withdraws n) = 9 ∷ 10 ∷ []
+numbers-for (advances tick) = 11 ∷ 12 ∷ []
 
 pub record Demand1 (s : Setup) (st : State) (c : Call) : Type 0 where
   pub numbered : map (λ test. test .number) (tests-for s (view st) c) ≡ numbers-for c
@@ -111,39 +112,50 @@ NoSharedTick rows =
 abbrev pub rows-for : List Row → Job → List Row
 rows-for rows j = keep (of-job (j .number)) rows
 
-module _ (s : Setup) (j : Job) (mine : List Row) where
-  -- a task has exactly one row, on a machine of the table that can run it, of its run time there, and ends by its deadline
-  pub record TaskDue (t : ℕ) : Type 0 where
-    pub once : count-of (books-task t) mine ≡ 1
-    pub on-machine : IsMachine s (machine-for mine t)
-    pub able : 0 < run-time j t (machine-for mine t)
-    pub due : task-row mine t .finish ≡ task-row mine t .start + run-time j t (machine-for mine t)
-    pub in-time : task-row mine t .finish ≤ task-of j t .deadline
+-- the due length of a task's row on machine m: its run time there
+abbrev pub due-length : Entry → (task m : ℕ) → ℕ
+due-length e t m = run-time (e .job) t m
 
-  -- a message with volume whose two tasks are on different machines
-  abbrev pub between : Message → Bool
-  between msg = crosses msg (machine-for mine (msg .sender)) (machine-for mine (msg .receiver))
+-- What is due to an entry, of the rows that carry its number.
 
-  -- such a message has exactly one row, on its link, of link time times volume, not before its sender's finish; any other has none
-  pub record MessageDue (msg : Message) : Type 0 where
-    pub once : between msg ≡ true → count-of (books-message msg) mine ≡ 1
-    pub absent : between msg ≡ false → count-of (books-message msg) mine ≡ 0
-    pub its-link :
-        between msg ≡ true →
-        message-row mine msg .holder
-        ≡ MessageOn (machine-for mine (msg .sender)) (machine-for mine (msg .receiver)) (msg .sender) (msg .receiver)
-    pub due :
-        between msg ≡ true →
-        message-row mine msg .finish
-        ≡ message-row mine msg .start + transfer s msg (machine-for mine (msg .sender)) (machine-for mine (msg .receiver))
-    pub after-sender : between msg ≡ true → task-row mine (msg .sender) .finish ≤ message-row mine msg .start
-    -- its receiver does not begin before it has arrived
-    pub arrived : arrival mine msg (machine-for mine (msg .receiver)) ≤ task-row mine (msg .receiver) .start
+-- a task has exactly one row, on a machine of the table that can run it, of its due length there, and ends by its deadline
+pub record TaskDue (s : Setup) (e : Entry) (mine : List Row) (t : ℕ) : Type 0 where
+  pub once : count-of (books-task t) mine ≡ 1
+  pub on-machine : IsMachine s (machine-for mine t)
+  pub able : 0 < run-time (e .job) t (machine-for mine t)
+  pub due : task-row mine t .finish ≡ task-row mine t .start + due-length e t (machine-for mine t)
+  pub in-time : task-row mine t .finish ≤ task-of (e .job) t .deadline
 
-  -- a row of one of the job's tasks, or of one of its messages that has one
-  pub data Owed (row : Row) : Type 0 where
-    to-task : (t : ℕ) → IsTask j t → books-task t row ≡ true → Owed row
-    to-message : (msg : Message) → List·Memᴰ msg (messages-of j) → between msg ≡ true → books-message msg row ≡ true → Owed row
+-- a message with volume whose two tasks are on different machines
+abbrev pub between : List Row → Message → Bool
+between mine msg = crosses msg (machine-for mine (msg .sender)) (machine-for mine (msg .receiver))
+
+-- such a message has exactly one row, on its link, of link time times volume, not before its sender's finish; any other has none
+pub record MessageDue (s : Setup) (mine : List Row) (msg : Message) : Type 0 where
+  pub once : between mine msg ≡ true → count-of (books-message msg) mine ≡ 1
+  pub absent : between mine msg ≡ false → count-of (books-message msg) mine ≡ 0
+  pub its-link :
+      between mine msg ≡ true →
+      message-row mine msg .holder
+      ≡ MessageOn (machine-for mine (msg .sender)) (machine-for mine (msg .receiver)) (msg .sender) (msg .receiver)
+  pub due :
+      between mine msg ≡ true →
+      message-row mine msg .finish
+      ≡ message-row mine msg .start + transfer s msg (machine-for mine (msg .sender)) (machine-for mine (msg .receiver))
+  pub after-sender : between mine msg ≡ true → task-row mine (msg .sender) .finish ≤ message-row mine msg .start
+  -- its receiver does not begin before it has arrived
+  pub arrived : arrival mine msg (machine-for mine (msg .receiver)) ≤ task-row mine (msg .receiver) .start
+
+-- a row of one of the job's tasks, or of one of its messages that has one
+pub data Owed (j : Job) (mine : List Row) (row : Row) : Type 0 where
+  to-task : (t : ℕ) → IsTask j t → books-task t row ≡ true → Owed j mine row
+  to-message : (msg : Message) → List·Memᴰ msg (messages-of j) → between mine msg ≡ true → books-message msg row ≡ true → Owed j mine row
+
+-- each task and each message has the rows that are due, and there are no others
+pub record EntryDue (s : Setup) (e : Entry) (mine : List Row) : Type 0 where
+  pub tasks-due : (t : ℕ) → IsTask (e .job) t → TaskDue s e mine t
+  pub messages-due : (msg : Message) → List·Memᴰ msg (messages-of (e .job)) → MessageDue s mine msg
+  pub no-others : (row : Row) → List·Memᴰ row mine → Owed (e .job) mine row
 
 module _ (s : Setup) (calls : List Call) where
   abbrev pub register-left : State
@@ -159,20 +171,15 @@ module _ (s : Setup) (calls : List Call) where
   struck-calls = struck (step s) fresh calls
 
   pub record Demand3 : Type 0 where
-    -- every answer, the clock, the rows in their order and the total are the journal's
+    -- every answer, the clock (the calendar), the rows in their order and the total are the journal's
     pub answers-agree : answers (step s) fresh calls ≡ answers (journal-step s) empty calls
-    pub clock-agrees : register-left .clock ≡ journal-left .clock
+    pub calendar-agrees : register-left .calendar ≡ journal-left .calendar
     pub rows-agree : register-left .rows ≡ rows-in (journal-left .entries)
     pub total-agrees : register-left .total ≡ journal-total journal-left
     pub apart : NoSharedTick (register-left .rows)
-    -- each held job has exactly the rows that are due
-    pub tasks-due : (e : Entry) → held-entry e → (t : ℕ) → IsTask (e .job) t → TaskDue s (e .job) (rows-for (register-left .rows) (e .job)) t
-    pub messages-due :
-        (e : Entry) → held-entry e → (msg : Message) → List·Memᴰ msg (messages-of (e .job)) →
-        MessageDue s (e .job) (rows-for (register-left .rows) (e .job)) msg
-    pub no-others :
-        (row : Row) → List·Memᴰ row (register-left .rows) →
-        (e : Entry) × held-entry e × (row .job ≡ e .job .number) × Owed s (e .job) (rows-for (register-left .rows) (e .job)) row
+    -- each held job has exactly the rows that are due, and every row is of a held job
+    pub rows-due : (e : Entry) → held-entry e → EntryDue s e (rows-for (register-left .rows) (e .job))
+    pub of-held : (row : Row) → List·Memᴰ row (register-left .rows) → (e : Entry) × held-entry e × (row .job ≡ e .job .number)
     -- the list struck of its refused calls leaves an equal register and gives the same answers to the other calls
     pub struck-state : after (step s) fresh struck-calls ≡ register-left
     pub struck-answers : answers (step s) fresh struck-calls ≡ keep (λ a. accepted a) (answers (step s) fresh calls)

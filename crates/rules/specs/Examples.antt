@@ -1,4 +1,5 @@
--- Further examples of document 01's rules, worked out from its text: the order of the refusals, the ends of the ranges, the ties, and each link. They hold by computation.
+-- Further examples of document 01's rules, worked out from its text: the order of the refusals, the ends of the ranges, the ties, and each link. They hold by
+-- computation.
 use mathlib.Core.Bool.{cond}
 use mathlib.Core.List.{List, [], _∷_, _++_, map}
 use Prim.Native.Nat.{ℕ, _+_, _-_, _*_}
@@ -17,17 +18,17 @@ use Rattle.rules.specs.Refusals
 use Rattle.rules.specs.Sequences.{numbers}
 use Rattle.rules.specs.Words.{State, fresh}
 use Rattle.rules.specs.Placing.{costs}
-use Rattle.rules.specs.Refusals.{submits, withdraws, moves}
-use Rattle.rules.specs.Ledger.{task, message, job-with, job, on, over-link, admitted, refused, done}
-use Rattle.rules.specs.Ledger.{Given, calls, asked, looked, Outcome, leaves, answered, sees, Example, job-A, job-H}
+use Rattle.rules.specs.Refusals.{submits, withdraws, advances}
+use Rattle.rules.specs.Ledger.{task, message, job-with, job, on, over-link, admitted, rejected, granted}
+use Rattle.rules.specs.Ledger.{Given, calls, asked, looked, Effect, leaves, answered, sees, Example, job-A, job-H}
 
 -- How the second table is written.
 
-abbrev pub shows : Given → Outcome → Example
+abbrev pub shows : Given → Effect → Example
 shows g o = record { given = g; expected = o }
 
 abbrev pub refuses : State → Job → (number task : ℕ) → Example
-refuses st j n t = shows (asked st j) (answered (refused n t))
+refuses st j n t = shows (asked st j) (answered (rejected n t))
 
 abbrev pub admits : State → Job → (cost rows : ℕ) → Example
 admits st j c n = shows (asked st j) (answered (admitted c n))
@@ -37,11 +38,11 @@ abbrev pub gives : Job → (cost : ℕ) → List Row → Example
 gives j c rows = shows (calls (submits j ∷ [])) (leaves (admitted c (length rows) ∷ []) rows)
 
 abbrev pub holding : (clock : ℕ) → List Row → State
-holding clock rows = record { clock = clock; rows = rows; total = costs rows }
+holding clock rows = record { calendar = record { clock = clock }; rows = rows; total = costs rows }
 
 -- what n jobs leave that run for one tick each, on machine 4
-abbrev pub filled : ℕ → State
-filled n = holding 0 (map (λ k. on 4 (1_000 + k) 1 (k - 1) k 25) (numbers 1 n))
+abbrev pub filled-to : ℕ → State
+filled-to n = holding 0 (map (λ k. on 4 (1_000 + k) 1 (k - 1) k 25) (numbers 1 n))
 
 abbrev pub with-7 : State
 with-7 = holding 0 (on 1 7 1 0 4 40 ∷ [])
@@ -136,8 +137,8 @@ abbrev pub largest-last : Task → Job
 largest-last last = largest 65_535 1_000_000 last 1_000
 
 -- The order of the refusals: the first job of each pair breaks both rules, the second only the higher.
-abbrev pub in-order : List Example
-in-order =
+abbrev pub tests-in-order : List Example
+tests-in-order =
     -- 1 before 2: number 0, and no task
     refuses fresh (job 0 [] []) 1 0
     ∷ refuses fresh (job 7 [] []) 2 0
@@ -157,7 +158,7 @@ in-order =
     ∷ refuses fresh (job 7 (overdue ∷ unrunnable ∷ []) []) 6 2
     ∷ refuses fresh (job 7 (overdue ∷ easy ∷ []) []) 7 1
     -- 7 and 8 never both apply: a late job has no rows found; into a full register it is 7
-    ∷ refuses (filled 256) (alone 7 overdue) 7 1
+    ∷ refuses (filled-to 256) (alone 7 overdue) 7 1
     ∷ []
 
 -- 6 and 7.
@@ -184,13 +185,13 @@ infeasible-or-late =
 abbrev pub full : List Example
 full =
     -- with 256 rows held a job of one row is refused, with 255 it fits
-    refuses (filled 256) (job-A 7 10) 8 0
-    ∷ admits (filled 255) (job-A 7 10) 20 1
+    refuses (filled-to 256) (job-A 7 10) 8 0
+    ∷ admits (filled-to 255) (job-A 7 10) 20 1
     -- rows of messages count
-    ∷ refuses (filled 254) (job-H 16 3) 8 0
-    ∷ admits (filled 253) (job-H 16 3) 90 3
+    ∷ refuses (filled-to 254) (job-H 16 3) 8 0
+    ∷ admits (filled-to 253) (job-H 16 3) 90 3
     -- a message of volume 0 has no row
-    ∷ admits (filled 254) (job-H 16 0) 60 2
+    ∷ admits (filled-to 254) (job-H 16 0) 60 2
     ∷ []
 
 -- The ends of the ranges.
@@ -257,24 +258,24 @@ badly-listed =
     ∷ []
 
 -- 9 to 12.
-abbrev pub withdrawals-and-moves : List Example
-withdrawals-and-moves =
+abbrev pub withdrawals-and-advances : List Example
+withdrawals-and-advances =
     -- 9: a number that is not held, in range or not
     shows
     (calls (withdraws 7 ∷ withdraws 0 ∷ withdraws greatest ∷ []))
-    (leaves (refused 9 0 ∷ refused 9 0 ∷ refused 9 0 ∷ []) [])
+    (leaves (rejected 9 0 ∷ rejected 9 0 ∷ rejected 9 0 ∷ []) [])
     -- 10: two rows have ended and the third has not begun; all three stay
     ∷ shows
-    (calls (submits (like-H 7 50 30) ∷ moves 11 ∷ withdraws 7 ∷ []))
-    (leaves (admitted 90 3 ∷ done ∷ refused 10 0 ∷ []) (on 1 7 1 1 5 40 ∷ over-link 1 2 7 1 2 5 11 30 ∷ on 2 7 2 31 36 20 ∷ []))
+    (calls (submits (like-H 7 50 30) ∷ advances 11 ∷ withdraws 7 ∷ []))
+    (leaves (admitted 90 3 ∷ granted ∷ rejected 10 0 ∷ []) (on 1 7 1 1 5 40 ∷ over-link 1 2 7 1 2 5 11 30 ∷ on 2 7 2 31 36 20 ∷ []))
     -- 10 asks the rows of that job alone
     ∷ shows
-    (calls (submits (job-A 7 10) ∷ submits (alone 8 (task 100 30 4 0 0 0)) ∷ moves 2 ∷ withdraws 7 ∷ withdraws 8 ∷ []))
-    (leaves (admitted 20 1 ∷ admitted 40 1 ∷ done ∷ refused 10 0 ∷ done ∷ []) (on 2 7 1 1 6 20 ∷ []))
+    (calls (submits (job-A 7 10) ∷ submits (alone 8 (task 100 30 4 0 0 0)) ∷ advances 2 ∷ withdraws 7 ∷ withdraws 8 ∷ []))
+    (leaves (admitted 20 1 ∷ admitted 40 1 ∷ granted ∷ rejected 10 0 ∷ granted ∷ []) (on 2 7 1 1 6 20 ∷ []))
     -- when the third ends they leave
     ∷ shows
-    (calls (submits (like-H 7 50 30) ∷ moves 35 ∷ withdraws 7 ∷ moves 36 ∷ withdraws 7 ∷ []))
-    (leaves (admitted 90 3 ∷ done ∷ refused 10 0 ∷ done ∷ refused 9 0 ∷ []) [])
+    (calls (submits (like-H 7 50 30) ∷ advances 35 ∷ withdraws 7 ∷ advances 36 ∷ withdraws 7 ∷ []))
+    (leaves (admitted 90 3 ∷ granted ∷ rejected 10 0 ∷ granted ∷ rejected 9 0 ∷ []) [])
     -- a withdrawal keeps the other rows in order, and what it frees serves a later job
     ∷ shows
     (calls
@@ -285,18 +286,18 @@ withdrawals-and-moves =
     ∷ submits (alone 4 (task 9 1 1 0 0 0))
     ∷ []))
     (leaves
-    (admitted 10 1 ∷ admitted 10 1 ∷ admitted 20 1 ∷ done ∷ admitted 10 1 ∷ [])
+    (admitted 10 1 ∷ admitted 10 1 ∷ admitted 20 1 ∷ granted ∷ admitted 10 1 ∷ [])
     (on 1 1 1 1 2 10 ∷ on 1 3 1 3 5 20 ∷ on 1 4 1 2 3 10 ∷ []))
     -- 5 until the job has ended; then its number is free
     ∷ shows
-    (calls (submits (job-A 7 10) ∷ moves 5 ∷ submits (job-A 7 20) ∷ moves 6 ∷ submits (job-A 7 20) ∷ []))
-    (leaves (admitted 20 1 ∷ done ∷ refused 5 0 ∷ done ∷ admitted 20 1 ∷ []) (on 2 7 1 7 12 20 ∷ []))
+    (calls (submits (job-A 7 10) ∷ advances 5 ∷ submits (job-A 7 20) ∷ advances 6 ∷ submits (job-A 7 20) ∷ []))
+    (leaves (admitted 20 1 ∷ granted ∷ rejected 5 0 ∷ granted ∷ admitted 20 1 ∷ []) (on 2 7 1 7 12 20 ∷ []))
     -- 11; the present tick is accepted
-    ∷ shows (calls (moves 5 ∷ moves 4 ∷ moves 5 ∷ [])) (leaves (done ∷ refused 11 0 ∷ done ∷ []) [])
+    ∷ shows (calls (advances 5 ∷ advances 4 ∷ advances 5 ∷ [])) (leaves (granted ∷ rejected 11 0 ∷ granted ∷ []) [])
     -- 12; the last tick is accepted
     ∷ shows
-    (calls (moves 1_000_000_001 ∷ moves greatest ∷ moves 1_000_000_000 ∷ moves 1_000_000_000 ∷ moves 999_999_999 ∷ []))
-    (leaves (refused 12 0 ∷ refused 12 0 ∷ done ∷ done ∷ refused 11 0 ∷ []) [])
+    (calls (advances 1_000_000_001 ∷ advances greatest ∷ advances 1_000_000_000 ∷ advances 1_000_000_000 ∷ advances 999_999_999 ∷ []))
+    (leaves (rejected 12 0 ∷ rejected 12 0 ∷ granted ∷ granted ∷ rejected 11 0 ∷ []) [])
     ∷ []
 
 -- Placing: the ties, the order of the tasks, and the links.
@@ -414,4 +415,4 @@ each-link =
 
 unfoldable pub refusal-table : List Example
 refusal-table =
-    in-order ++ (infeasible-or-late ++ (full ++ (at-the-ends ++ (badly-listed ++ (withdrawals-and-moves ++ (looks ++ (placings ++ each-link)))))))
+    tests-in-order ++ (infeasible-or-late ++ (full ++ (at-the-ends ++ (badly-listed ++ (withdrawals-and-advances ++ (looks ++ (placings ++ each-link)))))))

@@ -7,10 +7,10 @@ use Rattle.rules.specs.declared.Row.{Row}
 use Rattle.rules.specs.declared.Job.{Job}
 use Rattle.rules.specs.declared.Setup.{Setup}
 use Rattle.rules.specs.Sequences.{any-of, keep, sum-of}
-use Rattle.rules.specs.Words.{View}
+use Rattle.rules.specs.Words.{Calendar, new-calendar, with-clock, View}
 use Rattle.rules.specs.Placing.{costs}
 use Rattle.rules.specs.Withdrawing.{ended}
-use Rattle.rules.specs.Refusals.{Call, submits, withdraws, moves, Step, settle, submit-answer, withdraw-answer, clock-answer, found, placing}
+use Rattle.rules.specs.Refusals.{Call, submits, withdraws, advances, Step, settle, submit-answer, withdraw-answer, advance-answer, found, placing}
 
 -- a job as submitted, with its rows and its cost
 pub record Entry : Type 0 where
@@ -19,11 +19,11 @@ pub record Entry : Type 0 where
   pub cost : ℕ
 
 pub record Journal : Type 0 where
-  pub clock : ℕ
+  pub calendar : Calendar
   pub entries : List Entry
 
 abbrev pub empty : Journal
-empty = record { clock = 0; entries = [] }
+empty = record { calendar = new-calendar; entries = [] }
 
 abbrev pub entry-of : ℕ → Entry → Bool
 entry-of n e = eqb (e .job .number) n
@@ -39,19 +39,20 @@ journal-total jn = sum-of (λ e. e .cost) (jn .entries)
 
 abbrev pub journal-view : Journal → View
 journal-view jn = record {
-  clock = jn .clock;
+  calendar = jn .calendar;
   rows = rows-in (jn .entries);
   held = λ n. any-of (entry-of n) (jn .entries);
   rows-of = λ n. rows-in (keep (entry-of n) (jn .entries));
 }
 
 unfoldable pub enter : Journal → Job → List Row → Journal
-enter jn j rows = record { clock = jn .clock; entries = jn .entries ++ (record { job = j; rows = rows; cost = costs rows } ∷ []) }
+enter jn j rows = record { calendar = jn .calendar; entries = jn .entries ++ (record { job = j; rows = rows; cost = costs rows } ∷ []) }
 
 unfoldable pub journal-step : Setup → Journal → Call → Step Journal
 journal-step s jn (submits j) =
     settle (submit-answer s (journal-view jn) j) jn (enter jn j (found (placing s (journal-view jn) j)))
 journal-step s jn (withdraws n) =
-    settle (withdraw-answer (journal-view jn) n) jn (record { clock = jn .clock; entries = keep (λ e. not (entry-of n e)) (jn .entries) })
-journal-step s jn (moves tick) =
-    settle (clock-answer (journal-view jn) tick) jn (record { clock = tick; entries = keep (λ e. not (ended tick (e .rows))) (jn .entries) })
+    settle (withdraw-answer (journal-view jn) n) jn (record { calendar = jn .calendar; entries = keep (λ e. not (entry-of n e)) (jn .entries) })
+journal-step s jn (advances tick) =
+    settle (advance-answer (journal-view jn) tick) jn (record
+    { calendar = with-clock tick (jn .calendar); entries = keep (λ e. not (ended tick (e .rows))) (jn .entries) })

@@ -9,8 +9,9 @@ use Rattle.rules.specs.declared.Job.{Job}
 use Rattle.rules.specs.declared.Message.{Message}
 use Rattle.rules.specs.declared.Row.{Row}
 use Rattle.rules.specs.declared.Setup.{Setup}
-use Rattle.rules.specs.Words.{State, Span, Within, Resource, machine, link, same, resource, span, messages-of, task-of, run-time}
-use Rattle.rules.specs.Placing.{task-row, machine-for, crosses, arrival, message-booking, transfer, ready, release, message-trial, try, trial-rows, costs}
+use Rattle.rules.specs.Words.{State, Span, Within, Resource, machine, link, same, resource, span, Hold, holds, messages-of, task-of, run-time}
+use Rattle.rules.specs.Placing.{Ground, task-row, machine-for, crosses, arrival, message-booking, transfer, ready, release, message-trial, try}
+use Rattle.rules.specs.Placing.{trial-rows, costs}
 use Rattle.rules.specs.Refusals.{running, Call, step, answers}
 
 -- Resources: a machine is itself alone, and a link is one ordered pair.
@@ -39,22 +40,22 @@ pub record IsLeast (from len : ℕ) (spans : List Span) (tick : ℕ) : Type 0 wh
   pub is-free : Free len spans tick
   pub none-earlier : (x : ℕ) → from ≤ x → x < tick → Free len spans x → ⊥
 
--- a resource is taken at a tick if some row on it holds the tick
-pub record TakenOn (r : Resource) (rows : List Row) (tick : ℕ) : Type 0 where
-  pub row : Row
-  pub listed : List·Memᴰ row rows
-  pub on : resource row ≡ r
-  pub within : Within tick (span row)
+-- a resource is taken at a tick if some hold on it has the tick
+pub record TakenOn (r : Resource) (hs : List Hold) (tick : ℕ) : Type 0 where
+  pub hold : Hold
+  pub listed : List·Memᴰ hold hs
+  pub on : hold .on ≡ r
+  pub within : Within tick (hold .span)
 
--- `len` ticks from `tick` on meet no row of the resource
-abbrev pub FreeOn : (r : Resource) → List Row → (len tick : ℕ) → Type 0
-FreeOn r rows len tick = (x : ℕ) → tick ≤ x → x < tick + len → TakenOn r rows x → ⊥
+-- `len` ticks from `tick` on meet no hold of the resource
+abbrev pub FreeOn : (r : Resource) → List Hold → (len tick : ℕ) → Type 0
+FreeOn r hs len tick = (x : ℕ) → tick ≤ x → x < tick + len → TakenOn r hs x → ⊥
 
--- of the ticks that are allowed the least at which `len` ticks meet no row of the resource
-pub record IsLeastOn (r : Resource) (rows : List Row) (len : ℕ) (Allowed : ℕ → Type 0) (tick : ℕ) : Type 0 where
+-- of the ticks that are allowed the least at which `len` ticks meet no hold of the resource
+pub record IsLeastOn (r : Resource) (hs : List Hold) (len : ℕ) (Allowed : ℕ → Type 0) (tick : ℕ) : Type 0 where
   pub allowed : Allowed tick
-  pub is-free : FreeOn r rows len tick
-  pub none-earlier : (x : ℕ) → Allowed x → x < tick → FreeOn r rows len x → ⊥
+  pub is-free : FreeOn r hs len tick
+  pub none-earlier : (x : ℕ) → Allowed x → x < tick → FreeOn r hs len x → ⊥
 
 -- a machine of the table, by its number
 pub record IsMachine (s : Setup) (m : ℕ) : Type 0 where
@@ -74,55 +75,56 @@ pub record IsNext (j : Job) (new : List Row) (t : ℕ) : Type 0 where
   pub lowest : (u : ℕ) → IsTask j u → ready j new u ≡ true → task-of j u .deadline ≡ task-of j t .deadline → t ≤ u
 
 -- not before the task's floor nor any arrival of a message into it, on machine m, beside these rows of the job
-pub record NotBefore (clock : ℕ) (j : Job) (new rows : List Row) (t m tick : ℕ) : Type 0 where
-  pub floor : release clock j new t ≤ tick
+pub record NotBefore (g : Ground) (j : Job) (new rows : List Row) (t m tick : ℕ) : Type 0 where
+  pub floor : release g j new t ≤ tick
   pub arrivals : (msg : Message) → List·Memᴰ msg (messages-of j) → msg .receiver ≡ t → arrival rows msg m ≤ tick
 
--- a task's start is the least tick, not before its floor nor any arrival, at which its run time meets no row of the machine
+-- a task's start is the least tick, not before its floor nor any arrival, at which its run time meets no hold of the machine
 abbrev pub Task-starts : Type 0
 Task-starts =
-    (s : Setup) (clock : ℕ) (held : List Row) (j : Job) (new : List Row) (t m : ℕ) →
+    (s : Setup) (g : Ground) (j : Job) (new : List Row) (t m : ℕ) →
     IsLeastOn
     (machine m)
-    (held ++ new)
+    (g .held ++ holds new)
     (run-time j t m)
-    (NotBefore clock j new (new ++ try s clock held j new t m .inputs) t m)
-    (try s clock held j new t m .own .start)
+    (NotBefore g j new (new ++ try s g j new t m .inputs) t m)
+    (try s g j new t m .own .start)
 
--- a message's row starts at the least tick, not before its sender's finish, at which its link time meets no row of the link, those tried before it included
+-- a message's row starts at the least tick, not before its sender's finish, at which its link time meets no hold of the link, those of messages tried before it
+-- included
 abbrev pub Message-starts : Type 0
 Message-starts =
-    (s : Setup) (held : List Row) (j : Job) (new : List Row) (m : ℕ) (tried : List Row) (msg : Message) →
+    (s : Setup) (held : List Hold) (j : Job) (new : List Row) (m : ℕ) (tried : List Row) (msg : Message) →
     crosses msg (machine-for new (msg .sender)) m ≡ true →
     (at : ℕ)
     × (message-trial s held j new m tried msg ≡ message-booking s j msg (machine-for new (msg .sender)) m at ∷ [])
     × IsLeastOn
     (link (machine-for new (msg .sender)) m)
-    (held ++ (new ++ tried))
+    (held ++ holds (new ++ tried))
     (transfer s msg (machine-for new (msg .sender)) m)
     (λ tick. task-row new (msg .sender) .finish ≤ tick)
     at
 
 -- the trial of a machine that is tried and is good
-pub record IsGood (s : Setup) (clock : ℕ) (held : List Row) (j : Job) (new : List Row) (t m : ℕ) : Type 0 where
+pub record IsGood (s : Setup) (g : Ground) (j : Job) (new : List Row) (t m : ℕ) : Type 0 where
   pub is-machine : IsMachine s m
   pub able : 0 < run-time j t m
-  pub in-time : try s clock held j new t m .own .finish ≤ task-of j t .deadline
+  pub in-time : try s g j new t m .own .finish ≤ task-of j t .deadline
 
 -- the trial kept: good, of lowest cost, then of earliest start, then of lowest machine
-pub record IsKept (s : Setup) (clock : ℕ) (held : List Row) (j : Job) (new : List Row) (t m : ℕ) : Type 0 where
-  pub is-good : IsGood s clock held j new t m
+pub record IsKept (s : Setup) (g : Ground) (j : Job) (new : List Row) (t m : ℕ) : Type 0 where
+  pub is-good : IsGood s g j new t m
   pub cheapest :
-      (k : ℕ) → IsGood s clock held j new t k →
-      costs (trial-rows (try s clock held j new t m)) ≤ costs (trial-rows (try s clock held j new t k))
+      (k : ℕ) → IsGood s g j new t k →
+      costs (trial-rows (try s g j new t m)) ≤ costs (trial-rows (try s g j new t k))
   pub soonest :
-      (k : ℕ) → IsGood s clock held j new t k →
-      costs (trial-rows (try s clock held j new t k)) ≡ costs (trial-rows (try s clock held j new t m)) →
-      try s clock held j new t m .own .start ≤ try s clock held j new t k .own .start
+      (k : ℕ) → IsGood s g j new t k →
+      costs (trial-rows (try s g j new t k)) ≡ costs (trial-rows (try s g j new t m)) →
+      try s g j new t m .own .start ≤ try s g j new t k .own .start
   pub lowest :
-      (k : ℕ) → IsGood s clock held j new t k →
-      costs (trial-rows (try s clock held j new t k)) ≡ costs (trial-rows (try s clock held j new t m)) →
-      try s clock held j new t k .own .start ≡ try s clock held j new t m .own .start →
+      (k : ℕ) → IsGood s g j new t k →
+      costs (trial-rows (try s g j new t k)) ≡ costs (trial-rows (try s g j new t m)) →
+      try s g j new t k .own .start ≡ try s g j new t m .own .start →
       m ≤ k
 
 -- a chain of messages leads from one task to another

@@ -16,7 +16,7 @@ use Rattle.rules.specs.Withdrawing
 use Rattle.rules.specs.Refusals
 use Rattle.rules.specs.Words.{Span, State, fresh, view, default-setup}
 use Rattle.rules.specs.Placing.{least-free}
-use Rattle.rules.specs.Refusals.{Call, submits, withdraws, moves, step, answers, after, submit-answer, look}
+use Rattle.rules.specs.Refusals.{Call, submits, withdraws, advances, step, answers, after, submit-answer, look}
 
 -- How the tables are written.
 
@@ -45,12 +45,12 @@ from-to a b = record { start = a; finish = b }
 abbrev pub admitted : (cost rows : ℕ) → Answer
 admitted c n = record { number = 0; task = 0; cost = c; rows = n }
 
-abbrev pub refused : (number task : ℕ) → Answer
-refused n t = record { number = n; task = t; cost = 0; rows = 0 }
+abbrev pub rejected : (number task : ℕ) → Answer
+rejected n t = record { number = n; task = t; cost = 0; rows = 0 }
 
 -- that of an accepted withdrawal or clock move
-abbrev pub done : Answer
-done = record { number = 0; task = 0; cost = 0; rows = 0 }
+abbrev pub granted : Answer
+granted = record { number = 0; task = 0; cost = 0; rows = 0 }
 
 -- An example is a list of calls on a fresh register, a job asked of a given register, a look at one, or a tick sought; it gives answers and rows, an answer,
 -- what is seen, or a tick.
@@ -60,13 +60,13 @@ pub data Given : Type 0 where
   looked : State → (machine tick : ℕ) → Given
   sought : (from len : ℕ) → List Span → Given
 
-pub data Outcome : Type 0 where
-  leaves : List Answer → List Row → Outcome
-  answered : Answer → Outcome
-  sees : Seen → Outcome
-  tick : ℕ → Outcome
+pub data Effect : Type 0 where
+  leaves : List Answer → List Row → Effect
+  answered : Answer → Effect
+  sees : Seen → Effect
+  tick : ℕ → Effect
 
-unfoldable pub outcome : Given → Outcome
+unfoldable pub effect : Given → Effect
 unfolding
     Sequences.precedes Sequences.prior Sequences.foremost Words.meets Words.same Words.held-by Words.default-setup
     Placing.spans-on Placing.free Placing.latest Placing.earliest Placing.least-free Placing.is-task Placing.is-message Placing.machine-of
@@ -75,16 +75,16 @@ unfolding
     Withdrawing.admit Withdrawing.remove Withdrawing.withdraw Withdrawing.ended Withdrawing.advance
     Refusals.judged Refusals.miscounted Refusals.task-out-of-range Refusals.out-of-range Refusals.message-out-of-range Refusals.ascending
     Refusals.bad-messages Refusals.infeasible Refusals.first-infeasible Refusals.missed Refusals.found Refusals.placing Refusals.submit-tests
-    Refusals.submit-answer Refusals.withdraw-tests Refusals.withdraw-answer Refusals.clock-tests Refusals.clock-answer Refusals.settle
+    Refusals.submit-answer Refusals.withdraw-tests Refusals.withdraw-answer Refusals.advance-tests Refusals.advance-answer Refusals.settle
     Refusals.step Refusals.answers Refusals.after Refusals.running Refusals.seen-in Refusals.look
-outcome (calls cs) = leaves (answers (step default-setup) fresh cs) (after (step default-setup) fresh cs .rows)
-outcome (asked st j) = answered (submit-answer default-setup (view st) j)
-outcome (looked st m at) = sees (look default-setup (view st) m at)
-outcome (sought from len spans) = tick (least-free from len spans)
+effect (calls cs) = leaves (answers (step default-setup) fresh cs) (after (step default-setup) fresh cs .rows)
+effect (asked st j) = answered (submit-answer default-setup (view st) j)
+effect (looked st m at) = sees (look default-setup (view st) m at)
+effect (sought from len spans) = tick (least-free from len spans)
 
 pub record Example : Type 0 where
   pub given : Given
-  pub expected : Outcome
+  pub expected : Effect
 
 -- A, with its deadline and its number; H, with its second deadline and its volume
 abbrev pub job-A : (number deadline : ℕ) → Job
@@ -106,9 +106,9 @@ ledger =
       expected = leaves (admitted 40 1 ∷ []) (on 1 7 1 1 5 40 ∷ []);
     }
     -- C
-    ∷ record { given = calls (submits (job-A 7 2) ∷ []); expected = leaves (refused 7 1 ∷ []) [] }
+    ∷ record { given = calls (submits (job-A 7 2) ∷ []); expected = leaves (rejected 7 1 ∷ []) [] }
     -- D
-    ∷ record { given = calls (submits (job-A 7 1) ∷ []); expected = leaves (refused 6 1 ∷ []) [] }
+    ∷ record { given = calls (submits (job-A 7 1) ∷ []); expected = leaves (rejected 6 1 ∷ []) [] }
     -- E
     ∷ record {
       given = calls (submits (job-A 7 5) ∷ submits (job 8 (task 20 1 4 10 4 0 ∷ []) []) ∷ []);
@@ -127,7 +127,7 @@ ledger =
           (on 1 7 1 1 5 40 ∷ over-link 1 2 7 1 2 5 11 30 ∷ on 2 7 2 11 16 20 ∷ []);
     }
     -- I
-    ∷ record { given = calls (submits (job-H 15 3) ∷ []); expected = leaves (refused 7 2 ∷ []) [] }
+    ∷ record { given = calls (submits (job-H 15 3) ∷ []); expected = leaves (rejected 7 2 ∷ []) [] }
     -- J
     ∷ record {
       given = calls (submits (job-H 16 0) ∷ []);
@@ -156,14 +156,14 @@ ledger =
     -- L
     ∷ record {
       given = calls (submits (job-A 7 10) ∷ withdraws 7 ∷ []);
-      expected = leaves (admitted 20 1 ∷ done ∷ []) [];
+      expected = leaves (admitted 20 1 ∷ granted ∷ []) [];
     }
     ∷ record {
-      given = calls (submits (job-A 7 10) ∷ moves 1 ∷ withdraws 7 ∷ []);
-      expected = leaves (admitted 20 1 ∷ done ∷ refused 10 0 ∷ []) (on 2 7 1 1 6 20 ∷ []);
+      given = calls (submits (job-A 7 10) ∷ advances 1 ∷ withdraws 7 ∷ []);
+      expected = leaves (admitted 20 1 ∷ granted ∷ rejected 10 0 ∷ []) (on 2 7 1 1 6 20 ∷ []);
     }
     ∷ record {
-      given = calls (submits (job-A 7 10) ∷ moves 6 ∷ withdraws 7 ∷ []);
-      expected = leaves (admitted 20 1 ∷ done ∷ refused 9 0 ∷ []) [];
+      given = calls (submits (job-A 7 10) ∷ advances 6 ∷ withdraws 7 ∷ []);
+      expected = leaves (admitted 20 1 ∷ granted ∷ rejected 9 0 ∷ []) [];
     }
     ∷ []

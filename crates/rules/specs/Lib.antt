@@ -8,6 +8,7 @@ pub mod Journal
 pub mod Ledger
 pub mod Examples
 pub mod Laws
-pub mod Bounds
 pub mod Demands
+pub mod Bounds
 pub mod Asked
+pub mod Codes

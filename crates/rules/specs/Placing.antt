@@ -11,13 +11,13 @@ use Rattle.rules.specs.declared.Message.{Message}
 use Rattle.rules.specs.declared.Job.{Job}
 use Rattle.rules.specs.declared.Setup.{Setup}
 use Rattle.rules.specs.Sequences.{any-of, all-of, keep, first-or, sum-of, foremost}
-use Rattle.rules.specs.Words.{Span, meets, Resource, machine, link, same, resource, span, machines, rate, link-time, link-rate}
+use Rattle.rules.specs.Words.{Span, meets, Resource, machine, link, same, Hold, holds, machines, rate, link-time, link-rate}
 use Rattle.rules.specs.Words.{messages-of, task-numbers, task-of, run-time}
 
 -- The least free tick.
 
-unfoldable pub spans-on : Resource → List Row → List Span
-spans-on r rows = map span (keep (λ row. same (resource row) r) rows)
+unfoldable pub spans-on : Resource → List Hold → List Span
+spans-on r hs = map (λ h. h .span) (keep (λ h. same (h .on) r) hs)
 
 -- `len` ticks from `tick` on meet none of the spans
 unfoldable pub free : (len : ℕ) → List Span → (tick : ℕ) → Bool
@@ -120,18 +120,27 @@ ready j new t = not (placed new t) && all-of (λ msg. placed new (msg .sender)) 
 unfoldable pub next-task : Job → List Row → Option ℕ
 next-task j new = foremost (λ t. task-of j t .deadline ∷ t ∷ []) (keep (ready j new) (task-numbers j))
 
--- 01's floor: the clock, the scheduling time, and the dispatch times of the tasks placed so far and of this one
-unfoldable pub release : (clock : ℕ) → Job → List Row → ℕ → ℕ
-release clock j new t = clock + j .scheduling + sum-of (λ k. task-of j k .dispatch) (keep (placed new) (task-numbers j)) + task-of j t .dispatch
+-- What a job is placed on: the tick from which its floors count, and what is held when it comes.
+pub record Ground : Type 0 where
+  pub base : ℕ
+  pub held : List Hold
 
--- A trial of machine m for task t. Everything is sought beside the rows `held`, `new`, and those of this task's messages already tried.
+-- the ground of a base tick and rows
+abbrev pub on-rows : (base : ℕ) → List Row → Ground
+on-rows base rows = record { base = base; held = holds rows }
 
-module _ (s : Setup) (held : List Row) (j : Job) (new : List Row) (m : ℕ) where
+-- 01's floor: the base, and the dispatch times of the tasks placed so far and of this one
+unfoldable pub release : Ground → Job → List Row → ℕ → ℕ
+release g j new t = g .base + sum-of (λ k. task-of j k .dispatch) (keep (placed new) (task-numbers j)) + task-of j t .dispatch
+
+-- A trial of machine m for task t. Everything is sought beside what is held, the rows `new`, and those of this task's messages already tried.
+
+module _ (s : Setup) (held : List Hold) (j : Job) (new : List Row) (m : ℕ) where
   -- the row that a message takes beside those tried before it, if it takes one
   unfoldable pub message-trial : List Row → Message → List Row
   message-trial tried msg =
       let a = machine-for new (msg .sender) in
-      let at = least-free (task-row new (msg .sender) .finish) (transfer s msg a m) (spans-on (link a m) (held ++ (new ++ tried))) in
+      let at = least-free (task-row new (msg .sender) .finish) (transfer s msg a m) (spans-on (link a m) (held ++ holds (new ++ tried))) in
       cond (crosses msg a m) (message-booking s j msg a m at ∷ []) []
 
   unfoldable pub message-trials : List Row → List Message → List Row
@@ -154,12 +163,12 @@ trial-rows trial = trial .inputs ++ (trial .own ∷ [])
 abbrev pub costs : List Row → ℕ
 costs rows = sum-of (λ row. row .cost) rows
 
-module _ (s : Setup) (clock : ℕ) (held : List Row) (j : Job) (new : List Row) (t : ℕ) where
+module _ (s : Setup) (g : Ground) (j : Job) (new : List Row) (t : ℕ) where
   unfoldable pub try : ℕ → Trial
   try m =
-      let inputs = message-trials s held j new m [] (into j t) in
-      let from = all-arrived (new ++ inputs) m (release clock j new t) (into j t) in
-      let start = least-free from (run-time j t m) (spans-on (machine m) (held ++ new)) in
+      let inputs = message-trials s (g .held) j new m [] (into j t) in
+      let from = all-arrived (new ++ inputs) m (release g j new t) (into j t) in
+      let start = least-free from (run-time j t m) (spans-on (machine m) (g .held ++ holds new)) in
       record { inputs = inputs; own = task-booking s j t m start }
 
   unfoldable pub good : Trial → Bool
@@ -185,12 +194,12 @@ pub data Turn : Type 0 where
   misses : ℕ → Turn
   books : ℕ → Trial → Turn
 
-module _ (s : Setup) (clock : ℕ) (held : List Row) (j : Job) where
+module _ (s : Setup) (g : Ground) (j : Job) where
   unfoldable pub turn : List Row → Turn
   turn new =
       elim (next-task j new) [
         | none ↦ over
-        | some t ↦ elim (choice s clock held j new t) [ none ↦ misses t | some trial ↦ books t trial ]
+        | some t ↦ elim (choice s g j new t) [ none ↦ misses t | some trial ↦ books t trial ]
       ]
 
   unfoldable pub place-from : (turns : ℕ) → List Row → Placing

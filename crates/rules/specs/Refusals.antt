@@ -15,7 +15,7 @@ use Rattle.rules.specs.declared.Seen.the-variants.{Idle, Booked, NoMachi
 use Rattle.rules.specs.Sequences.{any-of, keep, cons-if, precedes, foremost}
 use Rattle.rules.specs.Words.{largest-number, most-tasks, most-messages, largest-time, largest-volume, horizon, row-limit}
 use Rattle.rules.specs.Words.{machine, same, resource, machines, messages-of, task-numbers, task-of, run-time, State, View, view}
-use Rattle.rules.specs.Placing.{Placing, booked, late, place, costs}
+use Rattle.rules.specs.Placing.{Ground, on-rows, Placing, booked, late, place, costs}
 use Rattle.rules.specs.Withdrawing.{admit, withdraw, advance}
 
 -- A test has its refusal's number, and names a task (0 for none) where it refuses.
@@ -64,8 +64,8 @@ message-out-of-range j msg =
     || (not (ltb (msg .sender) (msg .receiver)) || ltb largest-volume (msg .volume)))
 
 -- messages stand by receiver, then sender
-abbrev pub listing : Message → List ℕ
-listing msg = msg .receiver ∷ msg .sender ∷ []
+abbrev pub message-order : Message → List ℕ
+message-order msg = msg .receiver ∷ msg .sender ∷ []
 
 -- strictly ascending: each figure row precedes the next
 unfoldable pub ascending : List (List ℕ) → Bool
@@ -74,7 +74,7 @@ ascending (x ∷ []) = true
 ascending (x ∷ (y ∷ rest)) = precedes x y && ascending (y ∷ rest)
 
 unfoldable pub bad-messages : Job → Bool
-bad-messages j = any-of (message-out-of-range j) (messages-of j) || not (ascending (map listing (messages-of j)))
+bad-messages j = any-of (message-out-of-range j) (messages-of j) || not (ascending (map message-order (messages-of j)))
 
 -- 6, infeasible (01's hopeless): no machine, or clock plus the least non-zero run time exceeds the deadline
 unfoldable pub infeasible : Setup → (clock : ℕ) → Job → ℕ → Bool
@@ -101,9 +101,13 @@ found (late t) = []
 abbrev pub admission : List Row → Answer
 admission rows = record { number = 0; task = 0; cost = costs rows; rows = length rows }
 
+-- what a job is placed on: its floors count from the clock and its scheduling time, and every row holds its span
+abbrev pub ground-of : View → Job → Ground
+ground-of v j = on-rows (v .calendar .clock + j .scheduling) (v .rows)
+
 module _ (s : Setup) (v : View) (j : Job) where
   unfoldable pub placing : Placing
-  placing = place s (v .clock) (v .rows) j
+  placing = place s (ground-of v j) j
 
   unfoldable pub submit-tests : List Test
   submit-tests =
@@ -112,7 +116,7 @@ module _ (s : Setup) (v : View) (j : Job) where
       ∷ record { number = 3; refuses = refuse-if (out-of-range s j) }
       ∷ record { number = 4; refuses = refuse-if (bad-messages j) }
       ∷ record { number = 5; refuses = refuse-if (v .held (j .number)) }
-      ∷ record { number = 6; refuses = first-infeasible s (v .clock) j }
+      ∷ record { number = 6; refuses = first-infeasible s (v .calendar .clock) j }
       ∷ record { number = 7; refuses = missed placing }
       ∷ record { number = 8; refuses = refuse-if (ltb row-limit (length (v .rows) + length (found placing))) }
       ∷ []
@@ -124,21 +128,21 @@ module _ (s : Setup) (v : View) (j : Job) where
 unfoldable pub withdraw-tests : View → ℕ → List Test
 withdraw-tests v n =
     record { number = 9; refuses = refuse-if (not (v .held n)) }
-    ∷ record { number = 10; refuses = refuse-if (any-of (λ row. leb (row .start) (v .clock)) (v .rows-of n)) }
+    ∷ record { number = 10; refuses = refuse-if (any-of (λ row. leb (row .start) (v .calendar .clock)) (v .rows-of n)) }
     ∷ []
 
 unfoldable pub withdraw-answer : View → ℕ → Answer
 withdraw-answer v n = judged (refusal 0 0) (withdraw-tests v n)
 
 -- Clock move. 11: below the clock. 12: above the horizon.
-unfoldable pub clock-tests : View → ℕ → List Test
-clock-tests v tick =
-    record { number = 11; refuses = refuse-if (ltb tick (v .clock)) }
+unfoldable pub advance-tests : View → ℕ → List Test
+advance-tests v tick =
+    record { number = 11; refuses = refuse-if (ltb tick (v .calendar .clock)) }
     ∷ record { number = 12; refuses = refuse-if (ltb horizon tick) }
     ∷ []
 
-unfoldable pub clock-answer : View → ℕ → Answer
-clock-answer v tick = judged (refusal 0 0) (clock-tests v tick)
+unfoldable pub advance-answer : View → ℕ → Answer
+advance-answer v tick = judged (refusal 0 0) (advance-tests v tick)
 
 -- Look: a machine and a tick. 13: the machine is none of the table's.
 
@@ -168,7 +172,7 @@ seen-row NoMachine = none
 pub data Call : Type 0 where
   submits : Job → Call
   withdraws : ℕ → Call
-  moves : ℕ → Call
+  advances : ℕ → Call
 
 pub record Step (S : Type 0) : Type 0 where
   pub answer : Answer
@@ -181,7 +185,7 @@ settle a old changed = record { answer = a; left = cond (accepted a) changed old
 unfoldable pub step : Setup → State → Call → Step State
 step s st (submits j) = settle (submit-answer s (view st) j) st (admit st (found (placing s (view st) j)))
 step s st (withdraws n) = settle (withdraw-answer (view st) n) st (withdraw st n)
-step s st (moves tick) = settle (clock-answer (view st) tick) st (advance st tick)
+step s st (advances tick) = settle (advance-answer (view st) tick) st (advance st tick)
 
 -- A list of calls, each handed what the last one left.
 module _ {S : Type 0} (next : S → Call → Step S) where

@@ -1,7 +1,8 @@
--- A reader must believe this: what the definitions say of lists: some and all of them, those that pass a test, sums, counts, and the one that comes first by its figures.
+-- A reader must believe this: what the definitions say of lists: some and all of them, those that pass a test, sums, counts, and the one that comes first by
+-- its figures.
 use Prim.Native.Nat.{ℕ, zero, suc, _+_}
 use mathlib.Core.Bool.{Bool, true, false, _||_, _&&_, cond}
-use mathlib.Core.List.{List, [], _∷_}
+use mathlib.Core.List.{List, [], _∷_, _++_}
 use mathlib.Core.Option.{Option, none, some}
 use lib.Dec.{ltb, eqb}
 use lib.ListN.{length}
@@ -39,6 +40,11 @@ module _ {A : Type 0} where
   abbrev pub sum-of : (A → ℕ) → List A → ℕ
   sum-of f [] = 0
   sum-of f (x ∷ xs) = f x + sum-of f xs
+
+-- lists one after the other
+abbrev pub joined : {A : Type 0} → List (List A) → List A
+joined [] = []
+joined (l ∷ ls) = l ++ joined ls
 
 -- n numbers in a row, from a on
 abbrev pub numbers : (a n : ℕ) → List ℕ

@@ -5,17 +5,17 @@ use Prim.Native.Nat.{ℕ, _+_, _-_}
 use lib.Dec.{leb}
 use Rattle.rules.specs.declared.Row.{Row}
 use Rattle.rules.specs.Sequences.{keep, all-of}
-use Rattle.rules.specs.Words.{State, view, of-job}
+use Rattle.rules.specs.Words.{with-clock, State, with-calendar, view, of-job}
 use Rattle.rules.specs.Placing.{costs}
 
 -- the rows of an admitted job go after the held ones, and its cost is added
 unfoldable pub admit : State → List Row → State
-admit st found = record { clock = st .clock; rows = st .rows ++ found; total = st .total + costs found }
+admit st found = record { calendar = st .calendar; rows = st .rows ++ found; total = st .total + costs found }
 
 -- the rows that pass the test leave, the others stay in order, and the cost of those that left is taken off
 unfoldable pub remove : (Row → Bool) → State → State
 remove leaves st = record {
-  clock = st .clock;
+  calendar = st .calendar;
   rows = keep (λ row. not (leaves row)) (st .rows);
   total = st .total - costs (keep leaves (st .rows));
 }
@@ -31,4 +31,4 @@ ended tick rows = all-of (λ row. leb (row .finish) tick) rows
 -- a clock move sets the clock, then removes each job whose every row has ended
 unfoldable pub advance : State → ℕ → State
 advance st tick =
-    remove (λ row. ended tick (view st .rows-of (row .job))) (record { clock = tick; rows = st .rows; total = st .total })
+    remove (λ row. ended tick (view st .rows-of (row .job))) (with-calendar (with-clock tick (st .calendar)) st)

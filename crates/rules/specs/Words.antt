@@ -1,10 +1,10 @@
 -- A reader must believe this: document 01, "Words and ranges": what is said of machines, links, jobs, rows and registers, and every limit.
 use mathlib.Core.Bool.{Bool, false, _&&_}
-use mathlib.Core.List.{List, [], _∷_}
+use mathlib.Core.List.{List, [], _∷_, _++_, map}
 use mathlib.Core.Option.{Option, none, some}
 use Prim.Native.Nat.{ℕ, zero, suc, _+_, _-_, _*_, _≤_, _<_, max, min}
 use lib.Dec.{ltb, eqb}
-use lib.ListN.{getD, take}
+use lib.ListN.{length, getD, take, replicate}
 use Rattle.rules.specs.declared.Holder.{Holder}
 use Rattle.rules.specs.declared.Holder.the-variants.{TaskOn, MessageOn}
 use Rattle.rules.specs.declared.Row.{Row}
@@ -12,7 +12,7 @@ use Rattle.rules.specs.declared.Task.{Task}
 use Rattle.rules.specs.declared.Message.{Message}
 use Rattle.rules.specs.declared.Job.{Job}
 use Rattle.rules.specs.declared.Setup.{Setup}
-use Rattle.rules.specs.Sequences.{any-of, keep, numbers}
+use Rattle.rules.specs.Sequences.{any-of, keep, numbers, joined}
 
 -- The ranges.
 
@@ -72,11 +72,22 @@ resource row = held-by (row .holder)
 abbrev pub span : Row → Span
 span row = record { start = row .start; finish = row .finish }
 
+-- A hold: a resource is taken for a span. What a row holds is its resource for its span.
+pub record Hold : Type 0 where
+  pub on : Resource
+  pub span : Span
+
+abbrev pub hold-of : Row → Hold
+hold-of row = record { on = resource row; span = span row }
+
+abbrev pub holds : List Row → List Hold
+holds rows = map hold-of rows
+
 -- The tables that a register is opened with. Machines are numbered from 1.
 
 -- the machines that a table has room for
 abbrev pub most-machines : ℕ
-most-machines = 4
+most-machines = 8
 
 abbrev pub machines : Setup → List ℕ
 machines s = numbers 1 (s .table .machines)
@@ -95,22 +106,34 @@ link-time s a b = getD (s .table .times) (link-place a b) 0
 abbrev pub link-rate : Setup → ℕ → ℕ → ℕ
 link-rate s a b = getD (s .table .fails) (link-place a b) 0
 
+-- figures for the machines that there are, and zeros for those that there is room for
+abbrev pub row-of : List ℕ → List ℕ
+row-of figures = figures ++ replicate (most-machines - length figures) 0
+
+-- such rows, and rows of zeros
+abbrev pub square-of : List (List ℕ) → List ℕ
+square-of rows = joined (map row-of rows) ++ replicate ((most-machines - length rows) * most-machines) 0
+
 -- the default tables, a row for each machine
 unfoldable pub default-setup : Setup
 default-setup = record {
   table = record {
     machines = 4;
-    rates = 10 ∷ 4 ∷ 10 ∷ 25 ∷ [];
+    rates = row-of (10 ∷ 4 ∷ 10 ∷ 25 ∷ []);
     times =
-        0 ∷ 2 ∷ 3 ∷ 1 ∷
-        2 ∷ 0 ∷ 1 ∷ 4 ∷
-        3 ∷ 1 ∷ 0 ∷ 2 ∷
-        1 ∷ 4 ∷ 2 ∷ 0 ∷ [];
+        square-of
+        ((0 ∷ 2 ∷ 3 ∷ 1 ∷ [])
+        ∷ (2 ∷ 0 ∷ 1 ∷ 4 ∷ [])
+        ∷ (3 ∷ 1 ∷ 0 ∷ 2 ∷ [])
+        ∷ (1 ∷ 4 ∷ 2 ∷ 0 ∷ [])
+        ∷ []);
     fails =
-        0 ∷ 5 ∷ 8 ∷ 6 ∷
-        5 ∷ 0 ∷ 7 ∷ 9 ∷
-        8 ∷ 7 ∷ 0 ∷ 5 ∷
-        6 ∷ 9 ∷ 5 ∷ 0 ∷ [];
+        square-of
+        ((0 ∷ 5 ∷ 8 ∷ 6 ∷ [])
+        ∷ (5 ∷ 0 ∷ 7 ∷ 9 ∷ [])
+        ∷ (8 ∷ 7 ∷ 0 ∷ 5 ∷ [])
+        ∷ (6 ∷ 9 ∷ 5 ∷ 0 ∷ [])
+        ∷ []);
   };
 }
 
@@ -139,20 +162,35 @@ run-time j t m = getD (task-of j t .runs) (m - 1) 0
 
 -- The register.
 
-pub record State : Type 0 where
+-- what a register holds beside its rows and their total
+pub record Calendar : Type 0 where
   pub clock : ℕ
+
+abbrev pub new-calendar : Calendar
+new-calendar = record { clock = 0 }
+
+-- the same with another clock
+abbrev pub with-clock : ℕ → Calendar → Calendar
+with-clock tick cal = record { clock = tick }
+
+pub record State : Type 0 where
+  pub calendar : Calendar
   pub rows : List Row
   pub total : ℕ
 
 abbrev pub fresh : State
-fresh = record { clock = 0; rows = []; total = 0 }
+fresh = record { calendar = new-calendar; rows = []; total = 0 }
+
+-- the same rows and total with another calendar
+abbrev pub with-calendar : Calendar → State → State
+with-calendar cal st = record { calendar = cal; rows = st .rows; total = st .total }
 
 abbrev pub of-job : ℕ → Row → Bool
 of-job n row = eqb (row .job) n
 
 -- What the rules read: of the register here, of the journal in its own section.
 pub record View : Type 0 where
-  pub clock : ℕ
+  pub calendar : Calendar
   pub rows : List Row
   pub held : ℕ → Bool
   pub rows-of : ℕ → List Row
@@ -160,7 +198,7 @@ pub record View : Type 0 where
 -- a job is held while some row carries its number
 abbrev pub view : State → View
 view st = record {
-  clock = st .clock;
+  calendar = st .calendar;
   rows = st .rows;
   held = λ n. any-of (of-job n) (st .rows);
   rows-of = λ n. keep (of-job n) (st .rows);

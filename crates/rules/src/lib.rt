@@ -1,8 +1,13 @@
 // The data types and limits of the cluster register. The rules themselves are the definitions of specs/, a file for each section of document 01.
+pub mod codes;
+pub mod rows;
 pub mod tables;
 
 // The machines that a table has room for, and their ordered pairs.
-pub const MACHINES: usize = 4;
+pub const MACHINES: usize = 8;
+
+// The machines of the default table.
+pub const DEFAULT_MACHINES: usize = 4;
 
 pub const PAIRS: usize = MACHINES * MACHINES;
 

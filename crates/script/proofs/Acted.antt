@@ -1,91 +1,96 @@
 -- Acts: what was read after an act line, and how long an act is.
-use mathlib.Core.Path.{_≡_, refl, sym, ap, _∙_}
+use mathlib.Core.Path.{_≡_, refl, sym, ap, _∙_, subst}
 use mathlib.Core.Bool.{true, false}
 use mathlib.Core.List.{List}
 use Prim.Native.Nat.{ℕ, _+_, _-_, _≤_, _<_}
 use native.Mathlib.Omega.{arith}
 use lib.ListN.{length, take, drop, length-drop}
 use borrow.Author.Tests.{le-leb, lt-leb}
-use Rattle.rules.specs.declared.Job.{Job}
-use Rattle.rules.specs.Refusals.{Call, submits, withdraws, moves}
+use Rattle.rules.specs.Refusals.{Call, submits, withdraws, advances}
 use Rattle.reservation.specs.declared.calls.Kind.{Kind}
 use Rattle.reservation.specs.Kinds.{kind-of}
-use Rattle.jobtext.specs.declared.line.Line.{Line}
-use Rattle.jobtext.specs.declared.line.Line.the-variants.{Figure, Refused}
-use Rattle.jobtext.specs.declared.job.Outcome.the-variants.{Read, Stopped}
-use Rattle.jobtext.specs.declared.job.JobRead.{JobRead}
-use Rattle.jobtext.specs.Lines.{Parsed, parsed, refused, any-figure, begins, line}
-use Rattle.jobtext.specs.JobText.{job-key, job-text}
-use Rattle.jobtext.specs.Reader.{line-number, line-said, LineIs, outcome-number, answered, Reads}
-use Rattle.jobtext.proofs.Begun.{key-fits}
-use Rattle.jobtext.proofs.Lined.{part}
-use Rattle.jobtext.proofs.Progress.{line-within, line-read, line-refused}
-use Rattle.jobtext.proofs.Staged.{job-within}
-use Rattle.script.specs.declared.acts.Turn.the-variants.{Called}
+use Rattle.lines.specs.declared.line.Reading.{Reading}
+use Rattle.lines.specs.declared.line.Reading.the-variants.{Read, Refused}
+use Rattle.texts.specs.declared.job.JobRead.{JobRead}
+use Rattle.lines.specs.Lines.{Parsed, parsed, refused, Due, any-figure, begins, line}
+use Rattle.texts.specs.Forms.{read}
+use Rattle.texts.specs.JobText.{job-form, as-job, job-text}
+use Rattle.lines.specs.Readings.{reading-number, reading-said, ReadingIs}
+use Rattle.texts.specs.Reader.{with-count, job-or-blank, Reads}
+use Rattle.lines.proofs.Begun.{key-fits}
+use Rattle.lines.proofs.Lined.{part}
+use Rattle.texts.proofs.Reading.{said-read, said-refused}
+use Rattle.texts.proofs.Reached.{line-reached, job-reached}
+use Rattle.script.specs.declared.acts.ActRead.the-variants.{Called}
 use Rattle.script.specs.declared.acts.NextAct.{NextAct}
-use Rattle.script.specs.Acts.{ended, call, unread, as-act, number-act, act, submit-line, withdraw-line, clock-line, tick-key}
-use Rattle.script.specs.Parts.{turn-act, act-said}
+use Rattle.script.specs.Keys.{job-key, tick-key}
+use Rattle.script.specs.Acts.{input-ends, call, unread, as-act, number-act, act, submit-line, withdraw-line, clock-line}
+use Rattle.script.specs.Parts.{act-read, act-said}
 
 -- What an answer of the code says.
 
-pub said-call : (r : NextAct) (next : ℕ) (kind : Kind) → r .turn ≡ Called next → r .call .kind ≡ kind → act-said r ≡ call (kind-of kind (r .call .job)) next
-said-call r next kind e k = ap (λ t. turn-act t (r .call)) e ∙ ap (λ x. call (kind-of x (r .call .job)) next) k
+pub said-call : (r : NextAct) (next : ℕ) (kind : Kind) → r .read ≡ Called next → r .call .kind ≡ kind → act-said r ≡ call (kind-of kind (r .call .job)) next
+said-call r next kind e k = ap (λ t. act-read t (r .call)) e ∙ ap (λ x. call (kind-of x (r .call .job)) next) k
+
+-- the bytes from a place on, as the part of the text that is lent
+abbrev lent : (text : List ℕ) (from : ℕ) → List ℕ
+lent text from = take (length text - from) (drop from text)
 
 -- A number or a tick, read of the part of the input from a place on.
-module _ (make : ℕ → Call) (key text : List ℕ) (from : ℕ) (r : Line) (reads : LineIs (any-figure key) (take (length text - from) (drop from text)) 0 r) where
-  said : r ≡ line-said (line (any-figure key) (drop from text) 0)
-  said = reads .answer-is ∙ ap (λ t. line-said (line (any-figure key) t 0)) (part text from)
+module _
+    (make : ℕ → Call) (key text : List ℕ) (from : ℕ) (due : Due) (is : due ≡ any-figure key) (r : Reading)
+    (reads : ReadingIs (line due (lent text from) 0) r) where
+  abbrev found : Parsed ℕ
+  found = line (any-figure key) (drop from text) 0
 
-  number-parsed : (n next : ℕ) → r ≡ Figure n next → line (any-figure key) (drop from text) 0 ≡ parsed n next
-  number-parsed n next e = line-read (line (any-figure key) (drop from text) 0) n next (sym e ∙ said)
+  said : r ≡ reading-said found
+  said = reads .answer-is ∙ ap (λ t. reading-said (line due t 0)) (part text from) ∙ ap (λ d. reading-said (line d (drop from text) 0)) is
 
-  pub number-read : (n next : ℕ) → r ≡ Figure n next → call (make n) (from + next) ≡ number-act make key text from
+  number-parsed : (n next : ℕ) → r ≡ Read n next → found ≡ parsed n next
+  number-parsed n next e = said-read (sym e ∙ said)
+
+  pub number-read : (n next : ℕ) → r ≡ Read n next → call (make n) (from + next) ≡ number-act make key text from
   number-read n next e = rw (number-parsed n next e) refl
 
-  pub number-within : (n next : ℕ) → r ≡ Figure n next → next ≤ length (drop from text)
-  number-within n next e = line-within (any-figure key) (drop from text) 0 n next (number-parsed n next e) .1
+  pub number-within : (n next : ℕ) → r ≡ Read n next → next ≤ length (drop from text)
+  number-within n next e = line-reached (any-figure key) (drop from text) 0 n next (number-parsed n next e) .within
 
-  pub number-unread : (number place : ℕ) → r ≡ Refused number place → unread (line-number r) ≡ number-act make key text from
-  number-unread number place e = rw (line-refused (line (any-figure key) (drop from text) 0) number place (sym e ∙ said), e) refl
+  pub number-unread : (number place : ℕ) → r ≡ Refused number place → unread (reading-number r) ≡ number-act make key text from
+  number-unread number place e = rw (said-refused {p = found} (sym e ∙ said), e) refl
 
 -- A job, read of the part of the input from its first line on.
-module _ (text : List ℕ) (from : ℕ) (r : JobRead) (reads : Reads (take (length text - from) (drop from text)) r) where
-  answer : r ≡ answered (job-text (drop from text))
-  answer = reads .answer-is ∙ ap (λ t. answered (job-text t)) (part text from)
+module _ (machines : ℕ) (text : List ℕ) (from : ℕ) (r : JobRead) (lent-reads : Reads machines (lent text from) r) where
+  reads : Reads machines (drop from text) r
+  reads = subst (λ t. Reads machines t r) (part text from) lent-reads
 
-  job-parsed : (next : ℕ) → r .outcome ≡ Read next → job-text (drop from text) ≡ parsed (r .job) next
-  job-parsed next e = go (job-text (drop from text)) answer
+  job-parsed : (n next : ℕ) → r .reading ≡ Read n next → job-text machines (drop from text) ≡ parsed (r .job) next
+  unfolding job-text
+  job-parsed n next e = go (read (job-form machines) (drop from text) 0) (reads .reading-is .answer-is) (reads .job-is)
     where
-      go : (p : Parsed Job) → r ≡ answered p → p ≡ parsed (r .job) next
-      go (parsed j last) q =
-          let o : Read next ≡ Read last = sym e ∙ ap (λ (x : JobRead). x .outcome) q in
-          let same : next ≡ last = cc in
-          let job : r .job ≡ j = ap (λ (x : JobRead). x .job) q in
-          rw (same, job) refl
-      go (refused number place) q =
-          let o : Read next ≡ Stopped number place = sym e ∙ ap (λ (x : JobRead). x .outcome) q in
-          absurd (let z : _≡_ {A = ℕ} 0 1 = cc in omega arith)
+      go :
+          (p : Parsed (List ℕ)) → r .reading ≡ reading-said (with-count p) → r .job ≡ job-or-blank (as-job machines p) →
+          as-job machines p ≡ parsed (r .job) next
+      go (parsed ns last) q j = let same : Read n next ≡ Read (length ns) last = sym e ∙ q in let to : next ≡ last = cc in rw (to, j) refl
+      go (refused number place) q j = absurd (let o : Read n next ≡ Refused number place = sym e ∙ q in let z : _≡_ {A = ℕ} 0 1 = cc in omega arith)
 
-  pub job-read : (next : ℕ) → r .outcome ≡ Read next → call (submits (r .job)) (from + next) ≡ as-act submits from (job-text (drop from text))
-  job-read next e = rw (job-parsed next e) refl
+  pub job-read : (n next : ℕ) → r .reading ≡ Read n next → call (submits (r .job)) (from + next) ≡ as-act submits from (job-text machines (drop from text))
+  job-read n next e = rw (job-parsed n next e) refl
 
-  pub job-read-within : (next : ℕ) → r .outcome ≡ Read next → next ≤ length (drop from text)
-  job-read-within next e = job-within (drop from text) (r .job) next (job-parsed next e) .1
+  pub job-read-within : (n next : ℕ) → r .reading ≡ Read n next → next ≤ length (drop from text)
+  job-read-within n next e = job-reached machines (drop from text) (r .job) next (job-parsed n next e) .within
 
-  pub job-unread : (number place : ℕ) → r .outcome ≡ Stopped number place → unread (outcome-number (r .outcome)) ≡ as-act submits from (job-text (drop from text))
-  job-unread number place e = rw e (go (job-text (drop from text)) answer)
+  pub job-unread :
+      (number place : ℕ) → r .reading ≡ Refused number place → unread (reading-number (r .reading)) ≡ as-act submits from (job-text machines (drop from text))
+  unfolding job-text
+  job-unread number place e = rw e (go (read (job-form machines) (drop from text) 0) (reads .reading-is .answer-is))
     where
-      go : (p : Parsed Job) → r ≡ answered p → unread number ≡ as-act submits from p
-      go (parsed j last) q =
-          let o : Stopped number place ≡ Read last = sym e ∙ ap (λ (x : JobRead). x .outcome) q in
-          absurd (let z : _≡_ {A = ℕ} 0 1 = cc in omega arith)
-      go (refused k l) q =
-          let o : Stopped number place ≡ Stopped k l = sym e ∙ ap (λ (x : JobRead). x .outcome) q in
-          cc
+      go : (p : Parsed (List ℕ)) → r .reading ≡ reading-said (with-count p) → unread number ≡ as-act submits from (as-job machines p)
+      go (parsed ns last) q = absurd (let o : Refused number place ≡ Read (length ns) last = sym e ∙ q in let z : _≡_ {A = ℕ} 0 1 = cc in omega arith)
+      go (refused k l) q = let o : Refused number place ≡ Refused k l = sym e ∙ q in cc
 
 -- The act at a place, by its first bytes.
-module _ (text : List ℕ) (at : ℕ) where
-  pub at-end : length text ≤ at → act text at ≡ ended
+module _ (machines : ℕ) (text : List ℕ) (at : ℕ) where
+  pub at-end : length text ≤ at → act machines text at ≡ input-ends
   unfolding act
   at-end h = rw (le-leb (length text) at h) refl
 
@@ -93,26 +98,28 @@ module _ (text : List ℕ) (at : ℕ) where
     abbrev rest : List ℕ
     rest = drop at text
 
-    pub at-submit : begins submit-line rest ≡ true → act text at ≡ as-act submits (at + length submit-line) (job-text (drop (at + length submit-line) text))
+    pub at-submit :
+        begins submit-line rest ≡ true →
+        act machines text at ≡ as-act submits (at + length submit-line) (job-text machines (drop (at + length submit-line) text))
     unfolding act
     at-submit e = rw (lt-leb (length text) at more, e) refl
 
     pub at-withdraw :
         begins submit-line rest ≡ false → begins withdraw-line rest ≡ true →
-        act text at ≡ number-act withdraws job-key text (at + length withdraw-line)
+        act machines text at ≡ number-act withdraws job-key text (at + length withdraw-line)
     unfolding act
     at-withdraw a b = rw (lt-leb (length text) at more, a, b) refl
 
     pub at-clock :
         begins submit-line rest ≡ false → begins withdraw-line rest ≡ false → begins clock-line rest ≡ true →
-        act text at ≡ number-act moves tick-key text (at + length clock-line)
+        act machines text at ≡ number-act advances tick-key text (at + length clock-line)
     unfolding act
     at-clock a b c = rw (lt-leb (length text) at more, a, b, c) refl
 
-    pub no-act : begins submit-line rest ≡ false → begins withdraw-line rest ≡ false → begins clock-line rest ≡ false → act text at ≡ unread 17
+    pub no-act : begins submit-line rest ≡ false → begins withdraw-line rest ≡ false → begins clock-line rest ≡ false → act machines text at ≡ unread 17
     unfolding act
     no-act a b c = rw (lt-leb (length text) at more, a, b, c) refl
 
-    -- an act line lies within the text
-    pub act-fits : (key : List ℕ) → begins key rest ≡ true → at + length key ≤ length text
-    act-fits key e = let k = key-fits key rest e in let l = length-drop at text in omega arith
+-- an act line lies within the text
+pub act-fits : (text : List ℕ) (at : ℕ) → at < length text → (key : List ℕ) → begins key (drop at text) ≡ true → at + length key ≤ length text
+act-fits text at more key e = let k = key-fits key (drop at text) e in let l = length-drop at text in omega arith

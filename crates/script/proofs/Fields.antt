@@ -4,29 +4,30 @@ use mathlib.Core.List.{List, [], _++_}
 use Prim.Native.Nat.{ℕ, _+_, _≤_}
 use native.Mathlib.Omega.{arith}
 use lib.ListN.{length, length-append}
-use Rattle.jobtext.specs.Figures.{field}
-use Rattle.jobtext.specs.Put.{Puts, PutsField}
+use Rattle.lines.specs.Figures.{field}
+use Rattle.lines.specs.Put.{Puts}
+use Rattle.script.specs.Parts.{PutsField}
 use Rattle.script.specs.Parts.{PutsAtMost}
-use Rattle.jobtext.proofs.Put.{puts-then, puts-long, put-none}
+use Rattle.lines.proofs.Put.{puts-then, puts-long, put-none}
 
 -- bytes written from a place on, no more than so many
-pub record Within (old : List ℕ) (at : ℕ) (bytes new : List ℕ) (next most : ℕ) : Type 0 where
+pub record PutWithin (old : List ℕ) (at : ℕ) (bytes new : List ℕ) (next most : ℕ) : Type 0 where
   pub puts : Puts old at bytes new next
   pub short : length bytes ≤ most
   pub long : length new ≡ length old
 
 module _ {old : List ℕ} {at : ℕ} where
-  pub within-none : at ≤ length old → Within old at [] old at 0
+  pub within-none : at ≤ length old → PutWithin old at [] old at 0
   within-none h = record { puts = put-none old at h; short = omega arith; long = refl }
 
   -- where the next byte goes
-  pub within-next : {bytes new : List ℕ} {next most : ℕ} → Within old at bytes new next most → next ≤ at + most
+  pub within-next : {bytes new : List ℕ} {next most : ℕ} → PutWithin old at bytes new next most → next ≤ at + most
   within-next w = let p = w .puts .next-is in let s = w .short in omega arith
 
   -- more bytes
   pub within-then :
-      {bytes mid : List ℕ} {next most : ℕ} (more : List ℕ) {new : List ℕ} {last : ℕ} (size : ℕ) → at + (most + size) ≤ length old → Within old at bytes mid next most →
-      Puts mid next more new last → length more ≤ size → Within old at (bytes ++ more) new last (most + size)
+      {bytes mid : List ℕ} {next most : ℕ} (more : List ℕ) {new : List ℕ} {last : ℕ} (size : ℕ) → at + (most + size) ≤ length old →
+      PutWithin old at bytes mid next most → Puts mid next more new last → length more ≤ size → PutWithin old at (bytes ++ more) new last (most + size)
   within-then {bytes} {mid} {next} {most} more size h w p l =
       let n = within-next w in
       record {
@@ -38,19 +39,20 @@ module _ {old : List ℕ} {at : ℕ} where
   -- a field more
   pub within-field :
       {bytes mid : List ℕ} {next most : ℕ} (key : List ℕ) {n : ℕ} {new : List ℕ} {last : ℕ} → at + (most + (length key + 21)) ≤ length old →
-      Within old at bytes mid next most → PutsField mid next key n new last → Within old at (bytes ++ field key n) new last (most + (length key + 21))
+      PutWithin old at bytes mid next most → PutsField mid next key n new last → PutWithin old at (bytes ++ field key n) new last (most + (length key + 21))
   within-field key {n} h w p = within-then (field key n) (length key + 21) h w (p .puts) (p .short)
 
   -- the first field
   pub first-field :
       (key : List ℕ) {n : ℕ} {new : List ℕ} {last : ℕ} → at + (length key + 21) ≤ length old → PutsField old at key n new last →
-      Within old at (field key n) new last (length key + 21)
+      PutWithin old at (field key n) new last (length key + 21)
   first-field key h p = record { puts = p .puts; short = p .short; long = puts-long (p .puts) (let l = p .short in omega arith) }
 
   -- what a caller learns
-  pub at-most : {bytes new : List ℕ} {next most : ℕ} → Within old at bytes new next most → PutsAtMost old at bytes new next most
+  pub at-most : {bytes new : List ℕ} {next most : ℕ} → PutWithin old at bytes new next most → PutsAtMost old at bytes new next most
   at-most w = record { puts = w .puts; short = w .short }
 
   -- there is room for so many bytes more
-  pub within-room : {bytes new : List ℕ} {next most : ℕ} (size : ℕ) → at + (most + size) ≤ length old → Within old at bytes new next most → next + size ≤ length new
+  pub within-room :
+      {bytes new : List ℕ} {next most : ℕ} (size : ℕ) → at + (most + size) ≤ length old → PutWithin old at bytes new next most → next + size ≤ length new
   within-room size h w = let n = within-next w in let g = w .long in omega arith

@@ -10,20 +10,22 @@ use Rattle.rules.specs.declared.Holder.{Holder}
 use Rattle.rules.specs.declared.Holder.the-variants.{TaskOn, MessageOn}
 use Rattle.rules.specs.declared.Row.{Row}
 use Rattle.rules.specs.declared.Setup.{Setup}
-use Rattle.rules.specs.Words.{row-limit}
+use Rattle.rules.specs.Words.{row-limit, most-machines}
+use Rattle.rules.specs.Asked.{HasMachine, HasLink}
+use Rattle.rules.specs.Codes.{Numbered, on-machine, on-link}
 use Rattle.rules.specs.Placing.{no-row}
-use Rattle.rules.specs.Bounds.{Listed, RowInRange}
+use Rattle.rules.specs.Bounds.{Between, Listed, RowInRange}
 use Rattle.rules.specs.Bounds as Bounds
 use Rattle.rules.proofs.Sequences.{getD-mem}
 use Rattle.reservation.specs.declared.Register.{Register}
 use Rattle.reservation.specs.Registers.{state-of, Valid}
-use Rattle.jobtext.specs.Figures.{joined}
-use Rattle.jobtext.specs.Put.{Puts}
-use Rattle.jobtext.proofs.Put.{puts-then}
+use Rattle.rules.specs.Sequences.{joined}
+use Rattle.lines.specs.Put.{Puts}
+use Rattle.lines.proofs.Put.{puts-then}
 use Rattle.script.specs.Listing.{row-bytes, sorted, heading, listing}
-use Rattle.script.specs.Parts.{Coded, task, message, AskOrder, OrderIs, order-number, PutsAtMost, most-row}
-use Rattle.script.proofs.Fields.{Within, within-none, within-then, within-room}
-use Rattle.script.proofs.Ordered.{key-place}
+use Rattle.script.specs.Parts.{place-room, AskSort, OrderIs, order-number, PutsAtMost, most-row}
+use Rattle.script.proofs.Fields.{PutWithin, within-none, within-then, within-room}
+use Rattle.script.proofs.Ordered.{number-place}
 
 joined-append : (a b : List (List ℕ)) → joined (a ++ b) ≡ joined a ++ joined b
 joined-append [] b = refl
@@ -48,10 +50,12 @@ getD-map-in f (x ∷ l) (suc k) d e h = getD-map-in f l k d e (omega arith)
 
 -- k rows of those in order are listed
 pub record RowsListed (old : List ℕ) (at : ℕ) (rows : List Row) (count : ℕ) (new : List ℕ) (next k : ℕ) : Type 0 where
-  pub within : Within old at (joined (map row-bytes (take k (sorted (take count rows))))) new next (k * most-row)
+  pub within : PutWithin old at (joined (map row-bytes (take k (sorted (take count rows))))) new next (k * most-row)
   pub at-most : k ≤ count
 
-module _ (old : List ℕ) (at : ℕ) (rows : List Row) (count : ℕ) (keys : List ℕ) (w : OrderIs rows count keys) (few : count ≤ row-limit) (long : length rows ≡ row-limit) (room : at + row-limit * most-row ≤ length old) where
+module _
+    (old : List ℕ) (at : ℕ) (rows : List Row) (count : ℕ) (keys : List ℕ) (w : OrderIs rows count keys) (few : count ≤ row-limit)
+    (long : length rows ≡ row-limit) (room : at + row-limit * most-row ≤ length old) where
   abbrev row-at : ℕ → Row
   row-at k = getD rows k no-row
 
@@ -76,12 +80,12 @@ module _ (old : List ℕ) (at : ℕ) (rows : List Row) (count : ℕ) (keys : Lis
     place-below : place-at < count
     place-below = w .places-below place-at (getD-mem (w .places) k 0 (let l = places-long in omega arith))
 
-    pub place-is : getD keys k 0 % 256 ≡ place-at
+    pub place-is : getD keys k 0 % place-room ≡ place-at
     place-is =
-        ap
-        (λ n. n % 256)
-        (sym (getD-take count keys k 0 h) ∙ ap (λ l. getD l k 0) (w .keys-are) ∙ getD-map-in (λ n. order-number (row-at n) n) (w .places) k 0 0 (let l = places-long in omega arith))
-        ∙ key-place (row-at place-at) place-at (let b = place-below in omega arith)
+        let l = places-long in
+        let mapped = getD-map-in (λ n. order-number (row-at n) n) (w .places) k 0 0 (omega arith) in
+        ap (λ n. n % place-room) (sym (getD-take count keys k 0 h) ∙ ap (λ l. getD l k 0) (w .keys-are) ∙ mapped)
+        ∙ number-place (row-at place-at) place-at (let b = place-below in omega arith)
 
     pub row-there : row-at place-at ≡ getD in-order k no-row
     row-there = sym (getD-map-in row-at (w .places) k no-row 0 (let l = places-long in omega arith)) ∙ ap (λ l. getD l k no-row) (w .rows-are)
@@ -94,19 +98,17 @@ module _ (old : List ℕ) (at : ℕ) (rows : List Row) (count : ℕ) (keys : Lis
 
   pub rows-more :
       (new : List ℕ) (next k : ℕ) → k < count → RowsListed old at rows count new next k → (new′ : List ℕ) (last : ℕ) →
-      PutsAtMost new next (row-bytes (row-at (getD keys k 0 % 256))) new′ last most-row → RowsListed old at rows count new′ last (k + 1)
+      PutsAtMost new next (row-bytes (row-at (getD keys k 0 % place-room))) new′ last most-row → RowsListed old at rows count new′ last (k + 1)
   rows-more new next k h l new′ last p =
-      let row : row-at (getD keys k 0 % 256) ≡ getD in-order k no-row = ap row-at (place-is k h) ∙ row-there k h in
-      let q : PutsAtMost new next (row-bytes (getD in-order k no-row)) new′ last most-row = subst (λ r. PutsAtMost new next (row-bytes r) new′ last most-row) row p in
+      let row : row-at (getD keys k 0 % place-room) ≡ getD in-order k no-row = ap row-at (place-is k h) ∙ row-there k h in
+      let q = subst (λ r. PutsAtMost new next (row-bytes r) new′ last most-row) row p in
       let more = within-then (row-bytes (getD in-order k no-row)) most-row (omega arith) (l .within) (q .puts) (q .short) in
       let size : k * most-row + most-row ≡ (k + 1) * most-row = omega arith in
       let bytes : joined (map row-bytes (take k in-order)) ++ row-bytes (getD in-order k no-row) ≡ joined (map row-bytes (take (k + 1) in-order)) =
       sym (ap (λ n. joined (map row-bytes (take n in-order))) (add-one k) ∙ listed-suc in-order k (let s = sorted-long in omega arith))
       in
-      record {
-        within = subst (λ n. Within old at (joined (map row-bytes (take (k + 1) in-order))) new′ last n) size (subst (λ b. Within old at b new′ last (k * most-row + most-row)) bytes more);
-        at-most = omega arith;
-      }
+      let named = subst (λ b. PutWithin old at b new′ last (k * most-row + most-row)) bytes more in
+      record { within = subst (λ n. PutWithin old at (joined (map row-bytes (take (k + 1) in-order))) new′ last n) size named; at-most = omega arith }
 
   pub rows-all : (new : List ℕ) (next k : ℕ) → count ≤ k → RowsListed old at rows count new next k → Puts old at (joined (map row-bytes in-order)) new next
   rows-all new next k h l =
@@ -115,14 +117,17 @@ module _ (old : List ℕ) (at : ℕ) (rows : List Row) (count : ℕ) (keys : Lis
 
 -- What a valid register gives.
 
-machines-coded : (s : Setup) (h : Holder) → s .table .machines ≤ 4 → Listed s h → Coded h
-machines-coded s (TaskOn m t) room (Bounds.task a b) = let small : m < 8 = let f = a .last in omega arith in task small
-machines-coded s (MessageOn a b x y) room (Bounds.message c d e f) =
-    let source : a < 8 = let g = c .last in omega arith in
-    let target : b < 8 = let g = d .last in omega arith in
-    message (c .first) source target
+in-room : {count m : ℕ} → count ≤ most-machines → Between 1 count m → HasMachine m
+in-room room b = let l = b .last in record { first = b .first; last = omega arith }
 
-pub valid-order : (r : Register) → Valid r → AskOrder (r .rows) (r .count)
+holder-numbered : (s : Setup) (h : Holder) → s .table .machines ≤ most-machines → Listed s h → Numbered h
+holder-numbered s (TaskOn m t) room (Bounds.task a b) = on-machine (in-room room a)
+holder-numbered s (MessageOn a b x y) room listed = on-link (ends listed)
+  where
+    ends : Listed s (MessageOn a b x y) → HasLink a b
+    ends l = elim l [ Bounds.message c d e f g h ↦ record { source = in-room room c; target = in-room room d } ]
+
+pub valid-order : (r : Register) → Valid r → AskSort (r .rows) (r .count)
 valid-order r valid =
     record {
       long = valid .long;
@@ -130,15 +135,14 @@ valid-order r valid =
       coded = λ i h.
           let long = valid .long in
           let few = valid .count-at-most in
-          let there : i < length (take (r .count) (r .rows)) = let l = length-take (r .count) (r .rows) in omega arith in
+          let held = take (r .count) (r .rows) in
+          let there : i < length held = let l = length-take (r .count) (r .rows) in omega arith in
           let same = getD-take (r .count) (r .rows) i no-row h in
-          let row : RowInRange (r .setup) (getD (r .rows) i no-row) =
-          subst (RowInRange (r .setup)) same (valid .bounded .rows (getD (take (r .count) (r .rows)) i no-row) (getD-mem (take (r .count) (r .rows)) i no-row there))
-          in
+          let row = subst (RowInRange (r .setup)) same (valid .bounded .rows (getD held i no-row) (getD-mem held i no-row there)) in
           let lasts = row .lasts in
           let ends = row .ends in
           record {
-            holder = machines-coded (r .setup) (getD (r .rows) i no-row .holder) (valid .sound .room) (row .holder);
+            holder = holder-numbered (r .setup) (getD (r .rows) i no-row .holder) (valid .sound .room) (row .holder);
             start = omega arith;
             place-below = omega arith;
           };
@@ -146,11 +150,11 @@ valid-order r valid =
 
 -- A whole listing, from the figures that the register's accessors answer.
 module _
-    (r : Register) (valid : Valid r) (clock total count : ℕ) (rows : List Row) (e-clock : clock ≡ r .clock) (e-total : total ≡ r .total) (e-count : count ≡ r .count)
-    (e-rows : rows ≡ r .rows)
+    (r : Register) (valid : Valid r) (clock total count : ℕ) (rows : List Row) (e-clock : clock ≡ r .clock) (e-total : total ≡ r .total)
+    (e-count : count ≡ r .count) (e-rows : rows ≡ r .rows)
   where
-    pub rows-asked : AskOrder rows count
-    rows-asked = subst (λ n. AskOrder rows n) (sym e-count) (subst (λ l. AskOrder l (r .count)) (sym e-rows) (valid-order r valid))
+    pub rows-asked : AskSort rows count
+    rows-asked = subst (λ n. AskSort rows n) (sym e-count) (subst (λ l. AskSort l (r .count)) (sym e-rows) (valid-order r valid))
 
     pub whole-listing :
         {old : List ℕ} {at : ℕ} {mid : List ℕ} {next : ℕ} {new : List ℕ} {last : ℕ} → at ≤ length old →
@@ -164,6 +168,7 @@ module _
         let few = valid .count-at-most in
         omega arith
         in
-        let head : heading clock total count ≡ heading (state-of r .clock) (state-of r .total) (length (state-of r .rows)) = rw (e-clock, e-total, held) refl in
-        let body : joined (map row-bytes (sorted (take count rows))) ≡ joined (map row-bytes (sorted (take (r .count) (r .rows)))) = rw (e-count, e-rows) refl in
+        let st = state-of r in
+        let head : heading clock total count ≡ heading (st .calendar .clock) (st .total) (length (st .rows)) = rw (e-clock, e-total, held) refl in
+        let body : joined (map row-bytes (sorted (take count rows))) ≡ joined (map row-bytes (sorted (st .rows))) = rw (e-count, e-rows) refl in
         puts-then h (subst (λ b. Puts old at b mid next) head p) (subst (λ b. Puts mid next b new last) body q)

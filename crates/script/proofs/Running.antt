@@ -11,31 +11,32 @@ use borrow.Author.Tests.{lt-ltb, le-ltb}
 use Rattle.rules.specs.declared.Job.{Job}
 use Rattle.rules.specs.declared.Setup.{Setup}
 use Rattle.rules.specs.Words.{State, fresh, default-setup}
-use Rattle.rules.specs.Refusals.{Call, submits, withdraws, moves, step, answers, after}
+use Rattle.rules.specs.Refusals.{Call, submits, withdraws, advances, step, answers, after}
 use Rattle.rules.proofs.Sequences.{by-test}
 use Rattle.reservation.specs.declared.Register.{Register}
 use Rattle.reservation.specs.declared.Reply.{Reply}
 use Rattle.reservation.specs.declared.calls.Kind.{Kind}
-use Rattle.reservation.specs.declared.calls.Kind.the-variants.{Submit, Withdraw, Clock}
+use Rattle.reservation.specs.declared.calls.Kind.the-variants.{Submit, Withdraw, Advance}
 use Rattle.reservation.specs.Registers.{state-of, register-of, Valid}
 use Rattle.reservation.specs.Calls.{Steps}
 use Rattle.reservation.specs.Kinds.{kind-of}
 use Rattle.reservation.proofs.Values.{state-same}
-use Rattle.jobtext.specs.Lines.{Parsed, parsed, refused, Due, any-figure, begins, line}
-use Rattle.jobtext.specs.JobText.{job-key, job-text, blank-job}
-use Rattle.jobtext.specs.Put.{Puts}
-use Rattle.jobtext.proofs.Progress.{line-within}
-use Rattle.jobtext.proofs.Staged.{job-within}
-use Rattle.jobtext.proofs.Numbers.{by-less}
-use Rattle.jobtext.proofs.Put.{puts-then}
-use Rattle.script.specs.Acts.{Act, ended, call, unread, as-act, act, submit-line, withdraw-line, clock-line, tick-key}
+use Rattle.lines.specs.Lines.{Parsed, parsed, refused, Due, any-figure, begins, line}
+use Rattle.script.specs.Keys.{job-key, tick-key}
+use Rattle.texts.specs.JobText.{job-text, blank-job}
+use Rattle.lines.specs.Put.{Puts}
+use Rattle.texts.specs.Reader.{default-machines}
+use Rattle.texts.proofs.Reached.{line-reached, job-reached}
+use Rattle.rules.proofs.Sequences.{by-less}
+use Rattle.lines.proofs.Put.{puts-then}
+use Rattle.script.specs.Acts.{Act, input-ends, call, unread, as-act, act, submit-line, withdraw-line, clock-line}
 use Rattle.script.specs.Replies.{reply, stop-line}
 use Rattle.script.specs.Listing.{listing}
 use Rattle.script.specs.Program.{Script, script-from, script, replies, printed, program, input-limit}
 use Rattle.script.specs.Laws.{Turns-enough}
 use Rattle.script.specs.Contract.{output-size, Runs}
-use Rattle.script.specs.Parts.{PutsAtMost, most-for, most-reply, most-answer}
-use Rattle.script.proofs.Fields.{Within, within-none, within-then, within-next}
+use Rattle.script.specs.Parts.{PutsAtMost, most-for, most-reply, most-answer, most-stop, most-listing}
+use Rattle.script.proofs.Fields.{PutWithin, within-none, within-then, within-next}
 use Rattle.script.proofs.Acted.{at-end, at-submit, at-withdraw, at-clock, no-act, act-fits}
 
 -- How far an act reaches: past its place, within the text, and by half the bytes of its reply at the least.
@@ -48,57 +49,60 @@ pub record Reaches (text : List ℕ) (at : ℕ) (kind : Kind) (next : ℕ) : Typ
 submits-kind : (kind : Kind) (job j : Job) → submits j ≡ kind-of kind job → kind ≡ Submit
 submits-kind Submit job j e = refl
 submits-kind (Withdraw n) job j e = absurd (let z : _≡_ {A = ℕ} 0 1 = cc in omega arith)
-submits-kind (Clock t) job j e = absurd (let z : _≡_ {A = ℕ} 0 1 = cc in omega arith)
+submits-kind (Advance t) job j e = absurd (let z : _≡_ {A = ℕ} 0 1 = cc in omega arith)
 
 number-most : (kind : Kind) (job : Job) (c : Call) → ((j : Job) → c ≡ submits j → ⊥) → c ≡ kind-of kind job → most-for kind ≡ most-answer
 number-most Submit job c n e = absurd (n job e)
 number-most (Withdraw m) job c n e = refl
-number-most (Clock t) job c n e = refl
+number-most (Advance t) job c n e = refl
 
 -- a call that carries a number, from its line
 number-reaches :
-    (text : List ℕ) (at size : ℕ) (due : Due) (make : ℕ → Call) (kind : Kind) (job : Job) (next : ℕ) → 4 ≤ length (due .key) → 10 ≤ size → at + size ≤ length text →
-    ((n : ℕ) (j : Job) → make n ≡ submits j → ⊥) → as-act make (at + size) (line due (drop (at + size) text) 0) ≡ call (kind-of kind job) next → Reaches text at kind next
+    (text : List ℕ) (at size : ℕ) (due : Due) (make : ℕ → Call) (kind : Kind) (job : Job) (next : ℕ) → 4 ≤ length (due .key) → 10 ≤ size →
+    at + size ≤ length text → ((n : ℕ) (j : Job) → make n ≡ submits j → ⊥) →
+    as-act make (at + size) (line due (drop (at + size) text) 0) ≡ call (kind-of kind job) next → Reaches text at kind next
 number-reaches text at size due make kind job next k s f other e = go (line due (drop (at + size) text) 0) refl e
   where
     go : (p : Parsed ℕ) → line due (drop (at + size) text) 0 ≡ p → as-act make (at + size) p ≡ call (kind-of kind job) next → Reaches text at kind next
     go (parsed n last) q h =
-        let w = line-within due (drop (at + size) text) 0 n last q in
+        let w = line-reached due (drop (at + size) text) 0 n last q in
         let l = length-drop (at + size) text in
         let to : at + size + last ≡ next = cc in
         let same : make n ≡ kind-of kind job = cc in
         let most = number-most kind job (make n) (other n) same in
-        let low = w .0 in
-        let high = w .1 in
+        let low = w .on in
+        let high = w .within in
         record { on = omega arith; within = omega arith; enough = omega arith }
     go (refused number place) q h = absurd (let z : _≡_ {A = ℕ} 0 1 = cc in omega arith)
 
 job-reaches :
-    (text : List ℕ) (at : ℕ) (kind : Kind) (job : Job) (next : ℕ) → at + 11 ≤ length text → as-act submits (at + 11) (job-text (drop (at + 11) text)) ≡ call (kind-of kind job) next →
-    Reaches text at kind next
-job-reaches text at kind job next f e = go (job-text (drop (at + 11) text)) refl e
+    (machines : ℕ) (text : List ℕ) (at : ℕ) (kind : Kind) (job : Job) (next : ℕ) → at + 11 ≤ length text →
+    as-act submits (at + 11) (job-text machines (drop (at + 11) text)) ≡ call (kind-of kind job) next → Reaches text at kind next
+job-reaches machines text at kind job next f e = go (job-text machines (drop (at + 11) text)) refl e
   where
-    go : (p : Parsed Job) → job-text (drop (at + 11) text) ≡ p → as-act submits (at + 11) p ≡ call (kind-of kind job) next → Reaches text at kind next
+    go : (p : Parsed Job) → job-text machines (drop (at + 11) text) ≡ p → as-act submits (at + 11) p ≡ call (kind-of kind job) next → Reaches text at kind next
     go (parsed j last) q h =
-        let w = job-within (drop (at + 11) text) j last q in
+        let w = job-reached machines (drop (at + 11) text) j last q in
         let l = length-drop (at + 11) text in
         let to : at + 11 + last ≡ next = cc in
         let same : submits j ≡ kind-of kind job = cc in
         let most : most-for kind ≡ most-reply = ap most-for (submits-kind kind job j same) in
-        let low = w .0 in
-        let high = w .1 in
+        let low = w .on in
+        let high = w .within in
         record { on = omega arith; within = omega arith; enough = omega arith }
     go (refused number place) q h = absurd (let z : _≡_ {A = ℕ} 0 1 = cc in omega arith)
 
-pub act-reaches : (text : List ℕ) (at : ℕ) (kind : Kind) (job : Job) (next : ℕ) → act text at ≡ call (kind-of kind job) next → Reaches text at kind next
-act-reaches text at kind job next e =
+pub act-reaches :
+    (machines : ℕ) (text : List ℕ) (at : ℕ) (kind : Kind) (job : Job) (next : ℕ) → act machines text at ≡ call (kind-of kind job) next →
+    Reaches text at kind next
+act-reaches machines text at kind job next e =
     by-less
     at
     (length text)
     (λ more.
     by-test
     (begins submit-line (drop at text))
-    (λ a. job-reaches text at kind job next (act-fits text at more submit-line a) (sym (at-submit text at more a) ∙ e))
+    (λ a. job-reaches machines text at kind job next (act-fits text at more submit-line a) (sym (at-submit machines text at more a) ∙ e))
     (λ a.
     by-test
     (begins withdraw-line (drop at text))
@@ -116,7 +120,7 @@ act-reaches text at kind job next e =
     (omega arith)
     (act-fits text at more withdraw-line b)
     (λ n j q. let z : _≡_ {A = ℕ} 0 1 = cc in omega arith)
-    (sym (at-withdraw text at more a b) ∙ e))
+    (sym (at-withdraw machines text at more a b) ∙ e))
     (λ b.
     by-test
     (begins clock-line (drop at text))
@@ -126,7 +130,7 @@ act-reaches text at kind job next e =
     at
     10
     (any-figure tick-key)
-    moves
+    advances
     kind
     job
     next
@@ -134,59 +138,76 @@ act-reaches text at kind job next e =
     (omega arith)
     (act-fits text at more clock-line d)
     (λ n j q. let z : _≡_ {A = ℕ} 0 1 = cc in omega arith)
-    (sym (at-clock text at more a b d) ∙ e))
-    (λ d. absurd (let n : unread 17 ≡ call (kind-of kind job) next = sym (no-act text at more a b d) ∙ e in let z : _≡_ {A = ℕ} 0 1 = cc in omega arith)))))
-    (λ over. absurd (let n : ended ≡ call (kind-of kind job) next = sym (at-end text at over) ∙ e in let z : _≡_ {A = ℕ} 0 1 = cc in omega arith))
+    (sym (at-clock machines text at more a b d) ∙ e))
+    (λ d.
+    let n : unread 17 ≡ call (kind-of kind job) next = sym (no-act machines text at more a b d) ∙ e in
+    absurd (let z : _≡_ {A = ℕ} 0 1 = cc in omega arith)))))
+    (λ over. absurd (let n : input-ends ≡ call (kind-of kind job) next = sym (at-end machines text at over) ∙ e in let z : _≡_ {A = ℕ} 0 1 = cc in omega arith))
 
 -- The calls from a place on: as many turns as there are bytes left are enough.
 
-ended-there : (text : List ℕ) (at turns : ℕ) → length text ≤ at → script-from turns text at ≡ record { calls = []; stop = none }
+ended-there : (machines : ℕ) (text : List ℕ) (at turns : ℕ) → length text ≤ at → script-from machines turns text at ≡ record { calls = []; stop = none }
 unfolding script-from
-ended-there text at zero h = refl
-ended-there text at (suc turns) h = rw (at-end text at h, script-from) refl
+ended-there machines text at zero h = refl
+ended-there machines text at (suc turns) h = rw (at-end machines text at h, script-from) refl
 
 -- a call in front
 abbrev with-call : Call → Script → Script
 with-call c rest = record { calls = c ∷ rest .calls; stop = rest .stop }
 
-pub script-call : (text : List ℕ) (at turns : ℕ) (c : Call) (next : ℕ) → act text at ≡ call c next → script-from (suc turns) text at ≡ with-call c (script-from turns text next)
+pub script-call :
+    (machines : ℕ) (text : List ℕ) (at turns : ℕ) (c : Call) (next : ℕ) → act machines text at ≡ call c next →
+    script-from machines (suc turns) text at ≡ with-call c (script-from machines turns text next)
 unfolding script-from
-script-call text at turns c next e = rw (e, script-from) refl
+script-call machines text at turns c next e = rw (e, script-from) refl
 
-pub script-ended : (text : List ℕ) (at turns : ℕ) → act text at ≡ ended → script-from (suc turns) text at ≡ record { calls = []; stop = none }
+pub script-ended :
+    (machines : ℕ) (text : List ℕ) (at turns : ℕ) → act machines text at ≡ input-ends →
+    script-from machines (suc turns) text at ≡ record { calls = []; stop = none }
 unfolding script-from
-script-ended text at turns e = rw (e, script-from) refl
+script-ended machines text at turns e = rw (e, script-from) refl
 
-pub script-unread : (text : List ℕ) (at turns number : ℕ) → act text at ≡ unread number → script-from (suc turns) text at ≡ record { calls = []; stop = some number }
+pub script-unread :
+    (machines : ℕ) (text : List ℕ) (at turns number : ℕ) → act machines text at ≡ unread number →
+    script-from machines (suc turns) text at ≡ record { calls = []; stop = some number }
 unfolding script-from
-script-unread text at turns number e = rw (e, script-from) refl
+script-unread machines text at turns number e = rw (e, script-from) refl
 
 kind-for : (c : Call) → (kind : Kind) × (job : Job) × (c ≡ kind-of kind job)
 kind-for (submits j) = (Submit, j, refl)
 kind-for (withdraws n) = (Withdraw n, blank-job, refl)
-kind-for (moves t) = (Clock t, blank-job, refl)
+kind-for (advances t) = (Advance t, blank-job, refl)
 
-call-on : (text : List ℕ) (at : ℕ) (c : Call) (next : ℕ) → act text at ≡ call c next → at < next
-call-on text at c next e = let k = kind-for c in act-reaches text at (k .0) (k .1) next (e ∙ ap (λ x. call x next) (k .2)) .on
+call-on : (machines : ℕ) (text : List ℕ) (at : ℕ) (c : Call) (next : ℕ) → act machines text at ≡ call c next → at < next
+call-on machines text at c next e = let k = kind-for c in act-reaches machines text at (k .0) (k .1) next (e ∙ ap (λ x. call x next) (k .2)) .on
 
-pub enough-turns : (text : List ℕ) (at a b : ℕ) → length text ≤ at + a → length text ≤ at + b → script-from a text at ≡ script-from b text at
-enough-turns text at zero b h k = let over : length text ≤ at = omega arith in ended-there text at zero over ∙ sym (ended-there text at b over)
-enough-turns text at (suc a) zero h k = let over : length text ≤ at = omega arith in ended-there text at (suc a) over ∙ sym (ended-there text at zero over)
-enough-turns text at (suc a) (suc b) h k = go (act text at) refl (λ next p q. enough-turns text next a b p q)
+pub enough-turns :
+    (machines : ℕ) (text : List ℕ) (at a b : ℕ) → length text ≤ at + a → length text ≤ at + b →
+    script-from machines a text at ≡ script-from machines b text at
+enough-turns machines text at zero b h k =
+    let over : length text ≤ at = omega arith in
+    ended-there machines text at zero over ∙ sym (ended-there machines text at b over)
+enough-turns machines text at (suc a) zero h k =
+    let over : length text ≤ at = omega arith in
+    ended-there machines text at (suc a) over ∙ sym (ended-there machines text at zero over)
+enough-turns machines text at (suc a) (suc b) h k = go (act machines text at) refl (λ next p q. enough-turns machines text next a b p q)
   where
-    go : (x : Act) → act text at ≡ x → ((next : ℕ) → length text ≤ next + a → length text ≤ next + b → script-from a text next ≡ script-from b text next) → script-from (suc a) text at ≡ script-from (suc b) text at
-    go ended e below = script-ended text at a e ∙ sym (script-ended text at b e)
+    go :
+        (x : Act) → act machines text at ≡ x →
+        ((next : ℕ) → length text ≤ next + a → length text ≤ next + b → script-from machines a text next ≡ script-from machines b text next) →
+        script-from machines (suc a) text at ≡ script-from machines (suc b) text at
+    go input-ends e below = script-ended machines text at a e ∙ sym (script-ended machines text at b e)
     go (call c next) e below =
-        let on = call-on text at c next e in
-        script-call text at a c next e ∙ ap (with-call c) (below next (omega arith) (omega arith)) ∙ sym (script-call text at b c next e)
-    go (unread n) e below = script-unread text at a n e ∙ sym (script-unread text at b n e)
+        let on = call-on machines text at c next e in
+        script-call machines text at a c next e ∙ ap (with-call c) (below next (omega arith) (omega arith)) ∙ sym (script-call machines text at b c next e)
+    go (unread n) e below = script-unread machines text at a n e ∙ sym (script-unread machines text at b n e)
 
 stop-none : stop-line none ≡ []
 unfolding stop-line
 stop-none = refl
 
 pub turns-enough : Turns-enough
-turns-enough text turns h = enough-turns text 0 turns (length text) (omega arith) (omega arith)
+turns-enough machines text turns h = enough-turns machines text 0 turns (length text) (omega arith) (omega arith)
 
 -- What is printed from a state on: a call's reply and what follows it, or the end.
 module _ (s : Setup) (st : State) where
@@ -205,15 +226,15 @@ module _ (s : Setup) (st : State) where
 -- The loop: so many bytes are read, their answers are written, and the register stands for the state that they leave.
 pub record Running (text old : List ℕ) (r : Register) (at : ℕ) (new : List ℕ) (end : ℕ) : Type 0 where
   pub bytes : List ℕ
-  pub within : Within old 0 bytes new end (2 * at)
-  pub to-come : program default-setup text ≡ bytes ++ printed default-setup (state-of r) (script-from (length text - at) text at)
+  pub within : PutWithin old 0 bytes new end (2 * at)
+  pub to-come : program default-setup text ≡ bytes ++ printed default-setup (state-of r) (script-from default-machines (length text - at) text at)
   pub valid : Valid r
   pub setup-is : r .setup ≡ default-setup
   pub inside : at ≤ length text
 
 -- an input within the limit is read from its start on
-within-limit : (text : List ℕ) → length text ≤ input-limit → script text ≡ script-from (length text) text 0
-unfolding script
+within-limit : (text : List ℕ) → length text ≤ input-limit → script (default-setup .table .machines) text ≡ script-from default-machines (length text) text 0
+unfolding script default-setup
 within-limit text few = rw (le-ltb input-limit (length text) few) refl
 
 module _ (text old : List ℕ) (few : length text ≤ input-limit) (room : length old ≡ output-size) where
@@ -235,11 +256,12 @@ module _ (text old : List ℕ) (few : length text ≤ input-limit) (room : lengt
     left-over = omega arith
 
     pub running-more :
-        (kind : Kind) (job : Job) (next : ℕ) (result : Reply) (new′ : List ℕ) (last : ℕ) → act text at ≡ call (kind-of kind job) next → Steps r (kind-of kind job) result →
-        PutsAtMost new end (reply (kind-of kind job) (result .answer)) new′ last (most-for kind) → Running text old (result .register) next new′ last
+        (kind : Kind) (job : Job) (next : ℕ) (result : Reply) (new′ : List ℕ) (last : ℕ) → act default-machines text at ≡ call (kind-of kind job) next →
+        Steps r (kind-of kind job) result → PutsAtMost new end (reply (kind-of kind job) (result .answer)) new′ last (most-for kind) →
+        Running text old (result .register) next new′ last
     running-more kind job next result new′ last e steps p =
         let c = kind-of kind job in
-        let reach = act-reaches text at kind job next e in
+        let reach = act-reaches default-machines text at kind job next e in
         let on = reach .on in
         let inside = reach .within in
         let enough = reach .enough in
@@ -248,11 +270,11 @@ module _ (text old : List ℕ) (few : length text ≤ input-limit) (room : lengt
         let left : state-of (result .register) ≡ step default-setup (state-of r) c .left =
         ap state-of (steps .left-is) ∙ state-same (r .setup) (step (r .setup) (state-of r) c .left) ∙ rw setup refl
         in
-        let rest = script-from (length text - next) text next in
-        let turned : script-from (length text - at) text at ≡ with-call c rest =
-        ap (λ n. script-from n text at) left-over
-        ∙ script-call text at (length text - suc at) c next e
-        ∙ ap (with-call c) (enough-turns text next (length text - suc at) (length text - next) (omega arith) (omega arith))
+        let rest = script-from default-machines (length text - next) text next in
+        let turned : script-from default-machines (length text - at) text at ≡ with-call c rest =
+        ap (λ n. script-from default-machines n text at) left-over
+        ∙ script-call default-machines text at (length text - suc at) c next e
+        ∙ ap (with-call c) (enough-turns default-machines text next (length text - suc at) (length text - next) (omega arith) (omega arith))
         in
         let more-bytes = within-then (reply c (result .answer)) (most-for kind) (omega arith) (w .within) (p .puts) (p .short) in
         record {
@@ -271,31 +293,36 @@ module _ (text old : List ℕ) (few : length text ≤ input-limit) (room : lengt
         }
 
     -- there is room for a reply, and for the end
-    pub running-room : end + 106 ≤ length new
+    pub running-room : end + most-reply ≤ length new
     running-room = let n = within-next (w .within) in let l = w .within .long in omega arith
 
     pub running-stops :
-        (number : ℕ) (new′ : List ℕ) (last : ℕ) → act text at ≡ unread number → Puts new end (stop-line (some number) ++ listing (state-of r)) new′ last →
-        Puts old 0 (program default-setup text) new′ last
+        (number : ℕ) (new′ : List ℕ) (last : ℕ) → act default-machines text at ≡ unread number →
+        Puts new end (stop-line (some number) ++ listing (state-of r)) new′ last → Puts old 0 (program default-setup text) new′ last
     running-stops number new′ last e p =
-        let stop : script-from (length text - at) text at ≡ record { calls = []; stop = some number } =
-        ap (λ n. script-from n text at) left-over ∙ script-unread text at (length text - suc at) number e
+        let stop : script-from default-machines (length text - at) text at ≡ record { calls = []; stop = some number } =
+        ap (λ n. script-from default-machines n text at) left-over ∙ script-unread default-machines text at (length text - suc at) number e
         in
         let all : program default-setup text ≡ w .bytes ++ (stop-line (some number) ++ listing (state-of r)) =
-        w .to-come ∙ ap (λ x. w .bytes ++ printed default-setup (state-of r) x) stop ∙ ap (λ x. w .bytes ++ x) (printed-stop default-setup (state-of r) (some number))
+        w .to-come
+        ∙ ap (λ x. w .bytes ++ printed default-setup (state-of r) x) stop
+        ∙ ap (λ x. w .bytes ++ x) (printed-stop default-setup (state-of r) (some number))
         in
         subst (λ b. Puts old 0 b new′ last) (sym all) (puts-then (omega arith) (w .within .puts) p)
 
   module _ (r : Register) (at : ℕ) (new : List ℕ) (end : ℕ) (w : Running text old r at new end) where
     -- there is room for a reading refusal and the listing
-    pub ending-room : end + (29 + 46_672) ≤ length new
+    pub ending-room : end + (most-stop + most-listing) ≤ length new
     ending-room = let n = within-next (w .within) in let l = w .within .long in let i = w .inside in omega arith
 
-    pub running-ends : (new′ : List ℕ) (last : ℕ) → length text ≤ at → Puts new end (listing (state-of r)) new′ last → Puts old 0 (program default-setup text) new′ last
+    pub running-ends :
+        (new′ : List ℕ) (last : ℕ) → length text ≤ at → Puts new end (listing (state-of r)) new′ last → Puts old 0 (program default-setup text) new′ last
     running-ends new′ last over p =
-        let stop : script-from (length text - at) text at ≡ record { calls = []; stop = none } = ended-there text at (length text - at) over in
+        let stop = ended-there default-machines text at (length text - at) over in
         let all : program default-setup text ≡ w .bytes ++ listing (state-of r) =
-        w .to-come ∙ ap (λ x. w .bytes ++ printed default-setup (state-of r) x) stop ∙ ap (λ x. w .bytes ++ x) (printed-stop default-setup (state-of r) none ∙ no-stop (listing (state-of r)))
+        w .to-come
+        ∙ ap (λ x. w .bytes ++ printed default-setup (state-of r) x) stop
+        ∙ ap (λ x. w .bytes ++ x) (printed-stop default-setup (state-of r) none ∙ no-stop (listing (state-of r)))
         in
         subst (λ b. Puts old 0 b new′ last) (sym all) (puts-then (omega arith) (w .within .puts) p)
       where
@@ -311,7 +338,9 @@ puts-fit {old} {bytes} {new} p l =
     let b = length-append (take 0 old) bytes in
     omega arith
 
-pub whole-run : (input old new : List ℕ) (count : ℕ) → length old ≡ output-size → length new ≡ length old → Puts old 0 (program default-setup input) new count → Runs input old new count
+pub whole-run :
+    (input old new : List ℕ) (count : ℕ) → length old ≡ output-size → length new ≡ length old → Puts old 0 (program default-setup input) new count →
+    Runs input old new count
 whole-run input old new count long kept p =
     let bytes = program default-setup input in
     let zero-on : 0 + length bytes ≡ length bytes = zero-add (length bytes) in

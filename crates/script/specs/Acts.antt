@@ -4,10 +4,11 @@ use mathlib.Core.List.{List}
 use Prim.Native.Nat.{ℕ, _+_}
 use lib.Dec.{leb}
 use lib.ListN.{length, drop}
-use Rattle.rules.specs.Refusals.{Call, submits, withdraws, moves}
-use Rattle.jobtext.specs.Figures.{bytes}
-use Rattle.jobtext.specs.Lines.{Parsed, parsed, refused, any-figure, begins, line}
-use Rattle.jobtext.specs.JobText.{job-key, job-text}
+use Rattle.rules.specs.Refusals.{Call, submits, withdraws, advances}
+use Rattle.lines.specs.Figures.{bytes}
+use Rattle.lines.specs.Lines.{Parsed, parsed, refused, any-figure, begins, line}
+use Rattle.script.specs.Keys.{job-key, tick-key}
+use Rattle.texts.specs.JobText.{job-text}
 
 -- the act lines, line feed included
 abbrev pub submit-line : List ℕ
@@ -19,12 +20,9 @@ withdraw-line = bytes "act=withdraw\n"
 abbrev pub clock-line : List ℕ
 clock-line = bytes "act=clock\n"
 
-abbrev pub tick-key : List ℕ
-tick-key = bytes "tick="
-
 -- What stands at a place: the ordinary end, a call and the place after it, or a reading refusal.
 pub data Act : Type 0 where
-  ended : Act
+  input-ends : Act
   call : Call → (next : ℕ) → Act
   unread : (number : ℕ) → Act
 
@@ -38,11 +36,11 @@ abbrev pub number-act : (ℕ → Call) → (key text : List ℕ) → (from : ℕ
 number-act make key text from = as-act make from (line (any-figure key) (drop from text) 0)
 
 -- The act at a place. 17: no act line where one is due; an ended input there is the ordinary end. A submission's job text starts after its act line.
-unfoldable pub act : (text : List ℕ) (at : ℕ) → Act
-act text at =
-    cond (leb (length text) at) ended (
-    cond (begins submit-line (drop at text)) (as-act submits (at + length submit-line) (job-text (drop (at + length submit-line) text))) (
+unfoldable pub act : (machines : ℕ) (text : List ℕ) (at : ℕ) → Act
+act machines text at =
+    cond (leb (length text) at) input-ends (
+    cond (begins submit-line (drop at text)) (as-act submits (at + length submit-line) (job-text machines (drop (at + length submit-line) text))) (
     cond (begins withdraw-line (drop at text)) (number-act withdraws job-key text (at + length withdraw-line)) (
-    cond (begins clock-line (drop at text)) (number-act moves tick-key text (at + length clock-line)) (
+    cond (begins clock-line (drop at text)) (number-act advances tick-key text (at + length clock-line)) (
     unread 17
     ))))

@@ -22,4 +22,4 @@ Same-rows = (rows : List Row) (test : Row → Bool) → count-of test (sorted ro
 
 -- no script is cut short: more turns than there are bytes read nothing more
 abbrev pub Turns-enough : Type 0
-Turns-enough = (text : List ℕ) (turns : ℕ) → length text ≤ turns → script-from turns text 0 ≡ script-from (length text) text 0
+Turns-enough = (machines : ℕ) (text : List ℕ) (turns : ℕ) → length text ≤ turns → script-from machines turns text 0 ≡ script-from machines (length text) text 0

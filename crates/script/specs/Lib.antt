@@ -1,4 +1,5 @@
 -- The program `register` as definitions: first what a reader must believe, then what the functions ask of each other.
+pub mod Keys
 pub mod Acts
 pub mod Replies
 pub mod Listing

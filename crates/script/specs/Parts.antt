@@ -4,22 +4,22 @@ use mathlib.Core.List.{List, _∷_, _++_, map, List·Memᴰ}
 use Prim.Native.Nat.{ℕ, _+_, _-_, _*_, _≤_, _<_}
 use lib.Dec.{ltb}
 use lib.ListN.{length, getD, take, drop}
-use Rattle.rules.specs.declared.Holder.{Holder}
-use Rattle.rules.specs.declared.Holder.the-variants.{TaskOn, MessageOn}
 use Rattle.rules.specs.declared.Job.{Job}
 use Rattle.rules.specs.declared.Row.{Row}
 use Rattle.rules.specs.declared.Answer.{Answer}
 use Rattle.rules.specs.Placing.{no-row}
-use Rattle.rules.specs.Words.{row-limit}
+use Rattle.rules.specs.Words.{resource, row-limit}
+use Rattle.rules.specs.Codes.{resource-number, Numbered}
 use Rattle.reservation.specs.declared.calls.Call.{Call}
 use Rattle.reservation.specs.declared.calls.Kind.{Kind}
-use Rattle.reservation.specs.declared.calls.Kind.the-variants.{Submit, Withdraw, Clock}
+use Rattle.reservation.specs.declared.calls.Kind.the-variants.{Submit, Withdraw, Advance}
 use Rattle.reservation.specs.declared.Register.{Register}
 use Rattle.reservation.specs.Registers.{Valid}
 use Rattle.reservation.specs.Kinds.{kind-of, call-of}
-use Rattle.jobtext.specs.Put.{Puts}
-use Rattle.script.specs.declared.acts.Turn.{Turn}
-use Rattle.script.specs.declared.acts.Turn.the-variants.{Called, Unread}
+use Rattle.lines.specs.Figures.{field}
+use Rattle.lines.specs.Put.{Puts}
+use Rattle.script.specs.declared.acts.ActRead.{ActRead}
+use Rattle.script.specs.declared.acts.ActRead.the-variants.{Called, Unread}
 use Rattle.script.specs.declared.acts.NextAct.{NextAct}
 use Rattle.script.specs.Acts.{Act, call, unread}
 use Rattle.script.specs.Replies.{reply}
@@ -27,13 +27,18 @@ use Rattle.script.specs.Listing.{insert-before, sorted}
 use Rattle.script.specs.Program.{input-limit}
 use Rattle.script.specs.Contract.{output-size}
 
--- the act that a turn of the code is; its call stands beside it
-abbrev pub turn-act : Turn → Call → Act
-turn-act (Called next) c = call (call-of c) next
-turn-act (Unread number) c = unread number
+-- the act that the code read; its call stands beside it
+abbrev pub act-read : ActRead → Call → Act
+act-read (Called next) c = call (call-of c) next
+act-read (Unread number) c = unread number
 
 abbrev pub act-said : NextAct → Act
-act-said r = turn-act (r .turn) (r .call)
+act-said r = act-read (r .read) (r .call)
+
+-- a field of a 64-bit number has twenty digits at the most
+pub record PutsField (old : List ℕ) (at : ℕ) (key : List ℕ) (n : ℕ) (new : List ℕ) (next : ℕ) : Type 0 where
+  pub puts : Puts old at (field key n) new next
+  pub short : length (field key n) ≤ length key + 21
 
 -- bytes written, and how many they are at the most
 pub record PutsAtMost (old : List ℕ) (at : ℕ) (bytes new : List ℕ) (next most : ℕ) : Type 0 where
@@ -51,7 +56,7 @@ most-answer = 28
 abbrev pub most-for : Kind → ℕ
 most-for Submit = most-reply
 most-for (Withdraw number) = most-answer
-most-for (Clock tick) = most-answer
+most-for (Advance tick) = most-answer
 
 -- what the reply to a call of a kind writes; a submission's job is not printed
 abbrev pub ReplyPuts : (old : List ℕ) (at : ℕ) → Kind → Answer → (new : List ℕ) (next : ℕ) → Type 0
@@ -68,22 +73,21 @@ most-listing = most-heading + row-limit * most-row
 
 -- The listing's order by numbers: a row's resource, its start and its place in the register as one number.
 
-abbrev pub resource-code : Holder → ℕ
-resource-code (TaskOn m t) = m
-resource-code (MessageOn a b s r) = 8 * a + b
+-- one past every tick that a row may name, and one past every place
+abbrev pub tick-room : ℕ
+tick-room = 4_294_967_296
+
+abbrev pub place-room : ℕ
+place-room = row-limit
 
 abbrev pub order-number : Row → (place : ℕ) → ℕ
-order-number row place = (resource-code (row .holder) * 4_294_967_296 + row .start) * 256 + place
+order-number row place = (resource-number (resource row) * tick-room + row .start) * place-room + place
 
--- machines and starts that the number has room for
-pub data Coded : Holder → Type 0 where
-  task : {m t : ℕ} → m < 8 → Coded (TaskOn m t)
-  message : {a b s r : ℕ} → 1 ≤ a → a < 8 → b < 8 → Coded (MessageOn a b s r)
-
+-- a row that the number has room for
 pub record AskCode (row : Row) (place : ℕ) : Type 0 where
-  pub holder : Coded (row .holder)
-  pub start : row .start < 4_294_967_296
-  pub place-below : place < 256
+  pub holder : Numbered (row .holder)
+  pub start : row .start < tick-room
+  pub place-below : place < place-room
 
 abbrev pub insert-number : ℕ → List ℕ → List ℕ
 insert-number n ns = insert-before (λ m. ltb n m) n ns
@@ -114,14 +118,14 @@ pub record OrderIs (rows : List Row) (count : ℕ) (keys : List ℕ) : Type 0 wh
   pub keys-are : take count keys ≡ map (λ k. order-number (getD rows k no-row) k) places
   pub rows-are : map (λ k. getD rows k no-row) places ≡ sorted (take count rows)
 
-pub record AskOrder (rows : List Row) (count : ℕ) : Type 0 where
+pub record AskSort (rows : List Row) (count : ℕ) : Type 0 where
   pub long : length rows ≡ row-limit
   pub at-most : count ≤ row-limit
   pub coded : (i : ℕ) → i < count → AskCode (getD rows i no-row) i
 
 -- what is asked where rows are listed
 pub record AskRows (rows : List Row) (count : ℕ) (output : List ℕ) (at : ℕ) : Type 0 where
-  pub order : AskOrder rows count
+  pub order : AskSort rows count
   pub room : at + row-limit * most-row ≤ length output
 
 pub record AskListing (r : Register) (output : List ℕ) (at : ℕ) : Type 0 where

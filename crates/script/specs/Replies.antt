@@ -3,8 +3,8 @@ use mathlib.Core.List.{List, [], _++_}
 use mathlib.Core.Option.{Option, none, some}
 use Prim.Native.Nat.{ℕ}
 use Rattle.rules.specs.declared.Answer.{Answer}
-use Rattle.rules.specs.Refusals.{Call, submits, withdraws, moves}
-use Rattle.jobtext.specs.Figures.{bytes, field}
+use Rattle.rules.specs.Refusals.{Call, submits, withdraws, advances}
+use Rattle.lines.specs.Figures.{bytes, field}
 
 abbrev pub answer-key : List ℕ
 answer-key = bytes "answer="
@@ -28,7 +28,7 @@ submission-reply a = field answer-key (a .number) ++ field task-key (a .task) ++
 unfoldable pub reply : Call → Answer → List ℕ
 reply (submits j) a = submission-reply a
 reply (withdraws n) a = field answer-key (a .number)
-reply (moves tick) a = field answer-key (a .number)
+reply (advances tick) a = field answer-key (a .number)
 
 -- a reading refusal prints its number
 unfoldable pub stop-line : Option ℕ → List ℕ

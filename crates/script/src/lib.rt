@@ -1,20 +1,21 @@
 // The program `register` as a function on bytes: a script goes in, answers and a listing come out.
 mod acts;
 mod listing;
-mod order;
+mod output;
 mod replies;
+mod sorting;
 
-use acts::Turn;
+use acts::ActRead;
 use acts::next_act;
-use jobtext::figures::put_field;
 use listing::put_listing;
+use output::put_any_field;
 use replies::put_reply;
 use reservation::Register;
 ghost use mathlib.Core.List.{_++_};
 ghost use mathlib.Core.Option.{some};
 ghost use Rattle.rules.specs.Words.{default-setup};
 ghost use Rattle.reservation.specs.Registers.{state-of};
-ghost use Rattle.jobtext.specs.Put.{Puts};
+ghost use Rattle.lines.specs.Put.{Puts};
 ghost use Rattle.script.specs.Replies.{stop-line};
 ghost use Rattle.script.specs.Listing.{listing};
 ghost use Rattle.script.specs.Program.{program};
@@ -31,7 +32,7 @@ fn put_refusal(output: &mut [u8], at: usize, number: u64, register: Register) ->
     requires { ⌜ AskRefusal register (now output) at ⌝ }
     ensures { λ r. ⌜ Puts (now (output .entry)) at (stop-line (some number) ++ listing (state-of register)) (now (output .exit)) r ⌝ }
 {
-    let start = put_field(output, at, b"refused=", number);
+    let start = put_any_field(output, at, b"refused=", number);
     put_listing(output, start, register)
 }
 
@@ -45,9 +46,9 @@ fn run_calls(input: &[u8], output: &mut [u8]) -> usize
     let mut end = 0;
     while at < input.len() {
         let act = next_act(input, at);
-        let turn = act.turn;
-        match turn {
-            Turn::Called(next) => {
+        let read = act.read;
+        match read {
+            ActRead::Called(next) => {
                 let call = act.call;
                 let kind = call.kind;
                 let reply = register.apply(call);
@@ -57,7 +58,7 @@ fn run_calls(input: &[u8], output: &mut [u8]) -> usize
                 end = put_reply(output, end, kind, answer);
                 at = next;
             }
-            Turn::Unread(number) => {
+            ActRead::Unread(number) => {
                 return put_refusal(output, end, number, register);
             }
         }

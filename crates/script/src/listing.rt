@@ -1,6 +1,7 @@
 // The listing: clock, total, held, then the rows by machine and start, and by link and start.
-use crate::order::order_of;
-use jobtext::figures::put_field;
+use crate::output::put_any_field;
+use crate::sorting::PLACES;
+use crate::sorting::order_of;
 use reservation::Register;
 use rules::Holder;
 use rules::ROWS;
@@ -9,29 +10,29 @@ ghost use mathlib.Core.List.{map};
 ghost use Prim.Native.Nat.{_+_, _≤_};
 ghost use lib.ListN.{length, take};
 ghost use Rattle.reservation.specs.Registers.{state-of};
-ghost use Rattle.jobtext.specs.Figures.{joined};
-ghost use Rattle.jobtext.specs.Put.{Puts};
-ghost use Rattle.script.specs.Listing.{task-row, message-row, row-bytes, sorted, heading, listing};
+ghost use Rattle.rules.specs.Sequences.{joined};
+ghost use Rattle.lines.specs.Put.{Puts};
+ghost use Rattle.script.specs.Listing.{task-listed, message-listed, row-bytes, sorted, heading, listing};
 ghost use Rattle.script.specs.Parts.{PutsAtMost, most-heading, most-row, AskRows, AskListing};
 
 fn put_heading(output: &mut [u8], at: usize, clock: u64, total: u64, held: u64) -> usize
     requires { ⌜ at + most-heading ≤ length (now output) ⌝ }
     ensures { λ r. ⌜ PutsAtMost (now (output .entry)) at (heading clock total held) (now (output .exit)) r most-heading ⌝ }
 {
-    let at1 = put_field(output, at, b"clock=", clock);
-    let at2 = put_field(output, at1, b"total=", total);
-    put_field(output, at2, b"held=", held)
+    let at1 = put_any_field(output, at, b"clock=", clock);
+    let at2 = put_any_field(output, at1, b"total=", total);
+    put_any_field(output, at2, b"held=", held)
 }
 
 fn put_task_row(output: &mut [u8], at: usize, machine: u64, task: u64, row: Row) -> usize
     requires { ⌜ at + most-row ≤ length (now output) ⌝ }
-    ensures { λ r. ⌜ PutsAtMost (now (output .entry)) at (task-row machine task row) (now (output .exit)) r most-row ⌝ }
+    ensures { λ r. ⌜ PutsAtMost (now (output .entry)) at (task-listed machine task row) (now (output .exit)) r most-row ⌝ }
 {
-    let at1 = put_field(output, at, b"machine=", machine);
-    let at2 = put_field(output, at1, b"job=", row.job);
-    let at3 = put_field(output, at2, b"task=", task);
-    let at4 = put_field(output, at3, b"start=", row.start);
-    put_field(output, at4, b"finish=", row.finish)
+    let at1 = put_any_field(output, at, b"machine=", machine);
+    let at2 = put_any_field(output, at1, b"job=", row.job);
+    let at3 = put_any_field(output, at2, b"task=", task);
+    let at4 = put_any_field(output, at3, b"start=", row.start);
+    put_any_field(output, at4, b"finish=", row.finish)
 }
 
 fn put_message_row(
@@ -44,15 +45,15 @@ fn put_message_row(
     row: Row,
 ) -> usize
     requires { ⌜ at + most-row ≤ length (now output) ⌝ }
-    ensures { λ r. ⌜ PutsAtMost (now (output .entry)) at (message-row source target sender receiver row) (now (output .exit)) r most-row ⌝ }
+    ensures { λ r. ⌜ PutsAtMost (now (output .entry)) at (message-listed source target sender receiver row) (now (output .exit)) r most-row ⌝ }
 {
-    let at1 = put_field(output, at, b"link=", source);
-    let at2 = put_field(output, at1, b"to=", target);
-    let at3 = put_field(output, at2, b"job=", row.job);
-    let at4 = put_field(output, at3, b"from=", sender);
-    let at5 = put_field(output, at4, b"task=", receiver);
-    let at6 = put_field(output, at5, b"start=", row.start);
-    put_field(output, at6, b"finish=", row.finish)
+    let at1 = put_any_field(output, at, b"link=", source);
+    let at2 = put_any_field(output, at1, b"to=", target);
+    let at3 = put_any_field(output, at2, b"job=", row.job);
+    let at4 = put_any_field(output, at3, b"from=", sender);
+    let at5 = put_any_field(output, at4, b"task=", receiver);
+    let at6 = put_any_field(output, at5, b"start=", row.start);
+    put_any_field(output, at6, b"finish=", row.finish)
 }
 
 fn put_row(output: &mut [u8], at: usize, row: Row) -> usize
@@ -71,7 +72,7 @@ fn put_row(output: &mut [u8], at: usize, row: Row) -> usize
     }
 }
 
-// The rows in their order. A key's last eight bits are the place of its row.
+// The rows in their order. The place of its row is what a key leaves when divided by the places.
 fn put_rows(output: &mut [u8], at: usize, rows: [Row; ROWS], count: usize) -> usize
     requires { ⌜ AskRows rows count (now output) at ⌝ }
     ensures { λ r. ⌜ Puts (now (output .entry)) at (joined (map row-bytes (sorted (take count rows)))) (now (output .exit)) r ⌝ }
@@ -81,7 +82,7 @@ fn put_rows(output: &mut [u8], at: usize, rows: [Row; ROWS], count: usize) -> us
     let mut k = 0;
     while k < count {
         let key = keys[k];
-        let place = (key % 256) as usize;
+        let place = (key % PLACES) as usize;
         let row = rows[place];
         next = put_row(output, next, row);
         k += 1;

@@ -6,9 +6,6 @@ use lib.ListN.{length, length-take}
 use Rattle.cases.proofs.is_expected.Statement.{statement}
 use Rattle.cases.proofs.is_expected.Tie as tie
 
-run-requires : tie.Need-run-requires
-run-requires c κs = search needs
-
 array-share-prefix-output : tie.Need-array-share-prefix-output
 array-share-prefix-output c =
     let e = c .run .ensures in
@@ -19,13 +16,7 @@ array-share-prefix-output c =
 slice-aggregate-same : tie.Need-slice-aggregate-same
 slice-aggregate-same c = let e = c .before .run .ensures in e .count-is ∙ sym (ap length (e .written))
 
-same-requires : tie.Need-same-requires
-same-requires c κs = search needs
-
-returns : tie.Need-returns
-returns c = search needs
-
 pub is-expected-spec : {M : Type 1} → statement M
 is-expected-spec =
     tie.close
-    (tie.spec run-requires array-share-prefix-output slice-aggregate-same same-requires returns)
+    (tie.spec (λ c κs. search needs) array-share-prefix-output slice-aggregate-same (λ c κs. search needs) (λ c. search needs))

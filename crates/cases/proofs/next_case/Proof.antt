@@ -7,92 +7,62 @@ use Rattle.cases.specs.Cases.{PartIs}
 use Rattle.cases.proofs.next_case.Statement.{statement}
 use Rattle.cases.proofs.next_case.Tie as tie
 
+-- The stops: the start, and each part as it was read.
+
+abbrev start : tie.After-read-part → tie.Start
+start c = c .before .before .before
+
+abbrev first-read : tie.After-known-told → tie.After-read-part
+first-read c = c .before .before .before
+
+abbrev second-read : tie.After-known-told2 → tie.After-read-part2
+second-read c = c .before .before .before
+
+abbrev first-told : tie.After-known-told2 → tie.After-known-told
+first-told c = second-read c .before .before
+
 -- where the script lies
-first-part : (c : tie.After-known-told) → PartIs (length (c .before .before .before .before .before .before .args .text .now)) (c .before .before .before .before .before .before .args .at) (Bytes (c .before .first .given .0 .0) (c .before .first .given .0 .1 .0))
+first-part :
+    (c : tie.After-known-told) →
+    let a = start (first-read c) .args in
+    let given = c .before .first .given in
+    PartIs (length (a .text .now)) (a .at) (Bytes (given .0 .0) (given .0 .1 .0))
 first-part c = rw (c .before .first .given .1) at (c .before .before .before .read-part .ensures)
 
 -- where the expected output lies
 second-part :
     (c : tie.After-known-told2) →
-    PartIs (length (c .before .before .before .before .before .before .before .before .before .before .before .args .text .now)) (c .before .before .before .before .before .before .first .given .0 .1 .0) (Bytes (c .before .second .given .0 .0) (c .before .second .given .0 .1 .0))
+    let one = first-told c in
+    let given = c .before .second .given in
+    PartIs (length (start (first-read one) .args .text .now)) (one .before .first .given .0 .1 .0) (Bytes (given .0 .0) (given .0 .1 .0))
 second-part c = rw (c .before .second .given .1) at (c .before .before .before .read-part2 .ensures)
-
-slice-aggregate-read-part : tie.Need-slice-aggregate-read-part
-slice-aggregate-read-part c = search needs
-
-read-part-requires : tie.Need-read-part-requires
-read-part-requires c κs = search needs
-
-enum-known-first : tie.Need-enum-known-first
-enum-known-first c = search needs
-
-enum-told : tie.Need-enum-told
-enum-told c = search needs
-
-returns : tie.Need-returns
-returns c = search needs
-
-slice-aggregate-read-part-2 : tie.Need-slice-aggregate-read-part-2
-slice-aggregate-read-part-2 c = search needs
-
-read-part-requires-2 : tie.Need-read-part-requires-2
-read-part-requires-2 c κs = first-part (c .before) .2
-
-enum-known-second : tie.Need-enum-known-second
-enum-known-second c = search needs
-
-enum-told-2 : tie.Need-enum-told-2
-enum-told-2 c = search needs
-
-returns-2 : tie.Need-returns-2
-returns-2 c = search needs
-
-sub-is-expected : tie.Need-sub-is-expected
-sub-is-expected c = first-part (c .before .before .before .before .before) .1
-
-part-is-expected-start : tie.Need-part-is-expected-start
-part-is-expected-start c = first-part (c .before .before .before .before .before) .1
-
-part-is-expected-end : tie.Need-part-is-expected-end
-part-is-expected-end c = first-part (c .before .before .before .before .before) .2
-
-sub-is-expected-2 : tie.Need-sub-is-expected-2
-sub-is-expected-2 c = second-part (c .before) .1
-
-part-is-expected-start-2 : tie.Need-part-is-expected-start-2
-part-is-expected-start-2 c = second-part (c .before) .1
-
-part-is-expected-end-2 : tie.Need-part-is-expected-end-2
-part-is-expected-end-2 c = second-part (c .before) .2
-
-is-expected-requires : tie.Need-is-expected-requires
-is-expected-requires c κs = search needs
 
 returns-3 : tie.Need-returns-3
 returns-3 c =
-    let a = first-part (c .before .before .before .before .before .before .before .before) in
-    let b = second-part (c .before .before .before) in
+    let told = c .before .before .before in
+    let a = first-part (first-told told) in
+    let b = second-part told in
     (omega (arith, a .0, a .1, b .0, b .1), b .2)
 
 pub next-case-spec : {M : Type 1} → statement M
 next-case-spec =
     tie.close
     (tie.spec
-    slice-aggregate-read-part
-    read-part-requires
-    enum-known-first
-    enum-told
-    returns
-    slice-aggregate-read-part-2
-    read-part-requires-2
-    enum-known-second
-    enum-told-2
-    returns-2
-    sub-is-expected
-    part-is-expected-start
-    part-is-expected-end
-    sub-is-expected-2
-    part-is-expected-start-2
-    part-is-expected-end-2
-    is-expected-requires
+    (λ c. search needs)
+    (λ c κs. search needs)
+    (λ c. search needs)
+    (λ c. search needs)
+    (λ c. search needs)
+    (λ c. search needs)
+    (λ c κs. first-part (c .before) .2)
+    (λ c. search needs)
+    (λ c. search needs)
+    (λ c. search needs)
+    (λ c. first-part (first-told c) .1)
+    (λ c. first-part (first-told c) .1)
+    (λ c. first-part (first-told c) .2)
+    (λ c. second-part (c .before) .1)
+    (λ c. second-part (c .before) .1)
+    (λ c. second-part (c .before) .2)
+    (λ c κs. search needs)
     returns-3)

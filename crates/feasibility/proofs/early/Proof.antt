@@ -8,6 +8,11 @@ use Rattle.feasibility.proofs.Firsts.{early-0, early-1, early-2, early-
 use Rattle.feasibility.proofs.early.Statement.{statement}
 use Rattle.feasibility.proofs.early.Tie as tie
 
+-- The stops that the proof goes back to.
+
+abbrev start : tie.Else2 → tie.Start
+start c = c .before .before .before .before
+
 -- The tests that are passed, at the place behind each.
 
 number-passed : (c : tie.Else1) → outside 1 largest-number (c .before .before .args .job .number) ≡ false
@@ -16,17 +21,11 @@ number-passed c = sym (c .before .number-outside .ensures) ∙ c .if1 .left
 counts-passed : (c : tie.Else2) → miscounted (c .before .before .before .before .args .job) ≡ false
 counts-passed c = sym (c .before .miscounted .ensures) ∙ c .if2 .left
 
-figures-passed : (c : tie.Else3) → let a = c .before .before .before .before .before .before .args in out-of-range (a .s) (a .job) ≡ false
+figures-passed : (c : tie.Else3) → let a = start (c .before .before) .args in out-of-range (a .s) (a .job) ≡ false
 figures-passed c = sym (c .before .out-of-range .ensures) ∙ c .if3 .left
-
-number-outside-requires : tie.Need-number-outside-requires
-number-outside-requires c κs = search needs
 
 returns : tie.Need-returns
 returns c = early-1 (sym (c .before .number-outside .ensures) ∙ c .if1 .taken)
-
-miscounted-requires : tie.Need-miscounted-requires
-miscounted-requires c κs = search needs
 
 returns-2 : tie.Need-returns-2
 returns-2 c = early-2 (number-passed (c .before .before)) (sym (c .before .miscounted .ensures) ∙ c .if2 .taken)
@@ -58,9 +57,9 @@ pub early-spec : {M : Type 1} → statement M
 early-spec =
     tie.close
     (tie.spec
-    number-outside-requires
+    (λ c κs. search needs)
     returns
-    miscounted-requires
+    (λ c κs. search needs)
     returns-2
     out-of-range-requires
     returns-3

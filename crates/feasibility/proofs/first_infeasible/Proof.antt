@@ -1,6 +1,7 @@
 -- `feasibility::first_infeasible` meets its contract: none of the tasks passed is infeasible.
 use Prim.Native.Nat.{_-_, _<_}
 use native.Mathlib.Omega.{arith}
+use Rattle.rules.specs.Words.{most-tasks}
 use Rattle.feasibility.proofs.Feasibility.{count-at-most, times-asked, NoneInfeasible, feasible-at-first, feasible-more, first-found, none-found}
 use Rattle.feasibility.proofs.first_infeasible.Statement.{statement}
 use Rattle.feasibility.proofs.first_infeasible.Tie as tie
@@ -14,7 +15,7 @@ abbrev μ-loop : tie.MeasureT-loop
 loop-holds : tie.Need-loop-holds Inv-loop μ-loop
 loop-holds c = feasible-at-first _ _ _
 
-its-below : (c : tie.In-loop Inv-loop μ-loop) → c .before .loop .t < 16
+its-below : (c : tie.In-loop Inv-loop μ-loop) → c .before .loop .t < most-tasks
 its-below c = omega (arith, count-at-most (c .before .before .pre))
 
 mul-its : tie.Need-mul-its Inv-loop μ-loop

@@ -11,6 +11,14 @@ Inv-loop clock its table m₀ m = AllLate (table .machines) clock its m
 abbrev μ-loop : tie.MeasureT-loop
 μ-loop clock its table m₀ m = table .machines - m
 
+-- The stops that the proof goes back to.
+
+abbrev start : tie.Then1 Inv-loop μ-loop → tie.Start Inv-loop μ-loop
+start c = c .before .before .before .before
+
+abbrev head : tie.Else2 Inv-loop μ-loop → tie.At-loop Inv-loop μ-loop
+head c = c .before .before .before .before
+
 loop-holds : tie.Need-loop-holds Inv-loop μ-loop
 loop-holds c = late-at-first _ _ _
 
@@ -31,7 +39,7 @@ loop-again c = late-unable (c .before .before .before .before .loop .inv) (c .be
 
 add-if3 : tie.Need-add-if3 Inv-loop μ-loop
 add-if3 c =
-    let ask = c .before .before .before .before .before .before .pre in
+    let ask = start (c .before .before) .pre in
     omega (arith, ask .runs _ (c .before .before .if1 .taken))
 
 returns : tie.Need-returns Inv-loop μ-loop
@@ -41,7 +49,7 @@ loop-less-2 : tie.Need-loop-less-2 Inv-loop μ-loop
 loop-less-2 c = omega arith
 
 loop-again-2 : tie.Need-loop-again-2 Inv-loop μ-loop
-loop-again-2 c = late-more (c .before .before .before .before .before .loop .inv) (c .before .before .before .if1 .taken) (c .if3 .left)
+loop-again-2 c = late-more (head (c .before) .loop .inv) (c .before .before .before .if1 .taken) (c .if3 .left)
 
 returns-2 : tie.Need-returns-2 Inv-loop μ-loop
 returns-2 c = late-infeasible _ _ (c .before .before .loop .inv) (c .if1 .left)

@@ -29,15 +29,6 @@ above c =
     let went : ReadAll (Above (told .0 .0)) = rw (told .1) at (all .read-all .ensures) in
     omega (arith, long all)
 
-slice-aggregate-read-all : tie.Need-slice-aggregate-read-all
-slice-aggregate-read-all c = search needs
-
-read-all-requires : tie.Need-read-all-requires
-read-all-requires c κs = search needs
-
-enum-known-input : tie.Need-enum-known-input
-enum-known-input c = search needs
-
 array-share-prefix-buffer : tie.Need-array-share-prefix-buffer
 array-share-prefix-buffer c = whole (c .before)
 
@@ -45,12 +36,6 @@ slice-aggregate-answer : tie.Need-slice-aggregate-answer
 slice-aggregate-answer c =
     let read = c .before .before in
     sym (length-take-le (read .input .given .0 .0) (read .before .before .before .read-all .last .0) (whole read))
-
-answer-requires : tie.Need-answer-requires
-answer-requires c κs = search needs
-
-enum-known-input-2 : tie.Need-enum-known-input-2
-enum-known-input-2 c = search needs
 
 array-share-prefix-buffer-2 : tie.Need-array-share-prefix-buffer-2
 array-share-prefix-buffer-2 c = above (c .before)
@@ -60,44 +45,23 @@ slice-aggregate-answer-2 c =
     let read = c .before .before in
     sym (length-take-le (read .input2 .given .0 .0) (read .before .before .before .read-all .last .0) (above read))
 
-answer-requires-2 : tie.Need-answer-requires-2
-answer-requires-2 c κs = search needs
-
-enum-told : tie.Need-enum-told
-enum-told c = search needs
-
-slice-aggregate-complain : tie.Need-slice-aggregate-complain
-slice-aggregate-complain c = search needs
-
-complain-requires : tie.Need-complain-requires
-complain-requires c κs = search needs
-
-returns : tie.Need-returns
-returns c = search needs
-
-returns-2 : tie.Need-returns-2
-returns-2 c = search needs
-
-returns-3 : tie.Need-returns-3
-returns-3 c = search needs
-
 pub main-spec : {M : Type 1} → statement M
 main-spec =
     tie.close
     (tie.spec
-    slice-aggregate-read-all
-    read-all-requires
-    enum-known-input
+    (λ c. search needs)
+    (λ c κs. search needs)
+    (λ c. search needs)
     array-share-prefix-buffer
     slice-aggregate-answer
-    answer-requires
-    enum-known-input-2
+    (λ c κs. search needs)
+    (λ c. search needs)
     array-share-prefix-buffer-2
     slice-aggregate-answer-2
-    answer-requires-2
-    enum-told
-    slice-aggregate-complain
-    complain-requires
-    returns
-    returns-2
-    returns-3)
+    (λ c κs. search needs)
+    (λ c. search needs)
+    (λ c. search needs)
+    (λ c κs. search needs)
+    (λ c. search needs)
+    (λ c. search needs)
+    (λ c. search needs))

@@ -23,12 +23,10 @@ read-into-requires c κs =
     let loop = c .before .before in
     omega (arith, loop .loop .inv .1, loop .before .before .pre .long)
 
-enum-known-got : tie.Need-enum-known-got Inv-loop μ-loop
-enum-known-got c = search needs
-
 loop-less : tie.Need-loop-less Inv-loop μ-loop
 loop-less c =
-    let read = c .before .before .before .before .before in
+    let got = c .before in
+    let read = got .before .before .before .before in
     let loop = read .before .before .before in
     let told = c .before .got .given in
     let went : ReadInto (length (loop .loop .buffer)) (loop .loop .at) (Bytes (told .0 .0)) = rw (told .1) at (read .read-into .ensures) in
@@ -36,15 +34,13 @@ loop-less c =
 
 loop-again : tie.Need-loop-again Inv-loop μ-loop
 loop-again c =
-    let read = c .before .before .before .before .before in
+    let got = c .before in
+    let read = got .before .before .before .before in
     let loop = read .before .before .before in
     let told = c .before .got .given in
     let went : ReadInto (length (loop .loop .buffer)) (loop .loop .at) (Bytes (told .0 .0)) = rw (told .1) at (read .read-into .ensures) in
     let kept = read .read-into .kept .0 in
     (omega (arith, went .1, kept), kept ∙ loop .loop .inv .1)
-
-enum-told : tie.Need-enum-told Inv-loop μ-loop
-enum-told c = search needs
 
 same-length : tie.Need-same-length Inv-loop μ-loop
 same-length c =
@@ -54,16 +50,10 @@ same-length c =
 returns : tie.Need-returns Inv-loop μ-loop
 returns c = omega arith
 
-enum-told-2 : tie.Need-enum-told-2 Inv-loop μ-loop
-enum-told-2 c = search needs
-
 same-length-2 : tie.Need-same-length-2 Inv-loop μ-loop
 same-length-2 c =
     let read = c .before .before .before .before in
     read .read-into .kept .0 ∙ read .before .before .before .loop .inv .1
-
-returns-2 : tie.Need-returns-2 Inv-loop μ-loop
-returns-2 c = tt
 
 same-length-3 : tie.Need-same-length-3 Inv-loop μ-loop
 same-length-3 c = c .before .loop .inv .1
@@ -81,14 +71,14 @@ read-all-spec =
     μ-loop
     loop-holds
     read-into-requires
-    enum-known-got
+    (λ c. search needs)
     loop-less
     loop-again
-    enum-told
+    (λ c. search needs)
     same-length
     returns
-    enum-told-2
+    (λ c. search needs)
     same-length-2
-    returns-2
+    (λ c. tt)
     same-length-3
     returns-3)

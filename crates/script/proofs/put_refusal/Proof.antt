@@ -1,36 +1,33 @@
 -- `script::put_refusal` meets its contract: the refusal's field, then the listing.
 use native.Mathlib.Omega.{arith}
 use borrow.Author.Needs.{needs}
-use Rattle.jobtext.proofs.Put.{puts-then}
+use Rattle.lines.proofs.Put.{puts-then}
 use Rattle.script.specs.Replies.{stop-line}
 use Rattle.script.proofs.put_refusal.Statement.{statement}
 use Rattle.script.proofs.put_refusal.Tie as tie
 
-slice-aggregate-put-field : tie.Need-slice-aggregate-put-field
-slice-aggregate-put-field c = search needs
+-- The stops: the start, and the refusal's field.
 
-put-field-requires : tie.Need-put-field-requires
-put-field-requires c κs = search needs
+abbrev start : tie.After-put-any-field → tie.Start
+start c = c .before .before .before .before
 
-put-listing-requires : tie.Need-put-listing-requires
-put-listing-requires c κs = search needs
-
-same-length : tie.Need-same-length
-same-length c = search needs
+abbrev stopped : tie.After-put-listing → tie.After-put-any-field
+stopped c = c .before .before .before .before
 
 returns : tie.Need-returns
 unfolding stop-line
 returns c =
-    let field = c .before .before .before .before .before .before in
-    let start = field .before .before .before .before in
-    puts-then (let room = start .pre .room in omega arith) (field .put-field .ensures .puts) (c .before .before .put-listing .ensures)
+    let put = c .before .before in
+    let field = stopped put in
+    let room = start field .pre .room in
+    puts-then (omega arith) (field .put-any-field .ensures .puts) (put .put-listing .ensures)
 
 pub put-refusal-spec : {M : Type 1} → statement M
 put-refusal-spec =
     tie.close
     (tie.spec
-    slice-aggregate-put-field
-    put-field-requires
-    put-listing-requires
-    same-length
+    (λ c. search needs)
+    (λ c κs. search needs)
+    (λ c κs. search needs)
+    (λ c. search needs)
     returns)

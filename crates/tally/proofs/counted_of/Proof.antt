@@ -6,6 +6,14 @@ use Rattle.tally.specs.Tallies.{most-counted, counted}
 use Rattle.tally.proofs.counted_of.Statement.{statement}
 use Rattle.tally.proofs.counted_of.Tie as tie
 
+-- The stops that the proof goes back to.
+
+abbrev start : tie.Else2 → tie.Start
+start c = c .before .before .before .before
+
+abbrev tested-1 : tie.After-struct-known3 → tie.Else1
+tested-1 c = c .before .before .before .before
+
 returns : tie.Need-returns
 unfolding counted
 returns c =
@@ -18,30 +26,21 @@ returns-2 c =
     let t = c .before .before .before .before .args .t in
     rw (ne-eqb (t .arrived) most-counted (c .before .before .if1 .left), eq-eqb (t .admitted) most-counted (c .if2 .taken)) refl
 
-add-t4 : tie.Need-add-t4
-add-t4 c = search needs
-
-add-t5 : tie.Need-add-t5
-add-t5 c = search needs
-
 returns-3 : tie.Need-returns-3
 unfolding counted
 returns-3 c =
-    let t = c .before .before .before .before .before .before .before .args .t in
+    let t = start (c .before .before .before) .args .t in
     rw (
-      ne-eqb (t .arrived) most-counted (c .before .before .before .before .before .if1 .left),
+      ne-eqb (t .arrived) most-counted (tested-1 (c .before) .if1 .left),
       ne-eqb (t .admitted) most-counted
           (c .before .before .before .if2 .left),
       c .before .before .if3 .taken,
     ) refl
 
-add-t6 : tie.Need-add-t6
-add-t6 c = search needs
-
 returns-4 : tie.Need-returns-4
 unfolding counted
 returns-4 c =
-    let t = c .before .before .before .before .before .before .args .t in
+    let t = start (c .before .before) .args .t in
     rw (
       ne-eqb (t .arrived) most-counted (c .before .before .before .before .if1 .left),
       ne-eqb (t .admitted) most-counted
@@ -50,4 +49,4 @@ returns-4 c =
     ) refl
 
 pub counted-of-spec : {M : Type 1} → statement M
-counted-of-spec = tie.close (tie.spec returns returns-2 add-t4 add-t5 returns-3 add-t6 returns-4)
+counted-of-spec = tie.close (tie.spec returns returns-2 (λ c. search needs) (λ c. search needs) returns-3 (λ c. search needs) returns-4)

@@ -5,6 +5,11 @@ use borrow.Author.Tests.{eq-eqb, ne-eqb, lt-ltb, le-ltb}
 use Rattle.tally.proofs.guarantee_ratio.Statement.{statement}
 use Rattle.tally.proofs.guarantee_ratio.Tie as tie
 
+-- The stops that the proof goes back to.
+
+abbrev start : tie.Else2 → tie.Start
+start c = c .before .before .before .before
+
 returns : tie.Need-returns
 returns c =
     let t = c .before .before .args .t in
@@ -18,24 +23,12 @@ returns-2 c =
     let below = lt-ltb (t .arrived) (t .admitted) (c .if2 .taken) in
     record { number-is = rw (some-arrived, below) refl; value-is = rw (some-arrived, below) refl }
 
-cast-product : tie.Need-cast-product
-cast-product c = search needs
-
-mul-product : tie.Need-mul-product
-mul-product c = search needs
-
-cast-t4 : tie.Need-cast-t4
-cast-t4 c = search needs
-
-div-t5 : tie.Need-div-t5
-div-t5 c = search needs
-
 returns-3 : tie.Need-returns-3
 returns-3 c =
-    let t = c .before .before .before .before .before .before .args .t in
+    let t = start (c .before .before) .args .t in
     let some-arrived = ne-eqb (t .arrived) 0 (c .before .before .before .before .if1 .left) in
     let enough = le-ltb (t .arrived) (t .admitted) (c .before .before .if2 .left) in
     record { number-is = rw (some-arrived, enough) refl; value-is = rw (some-arrived, enough) refl }
 
 pub guarantee-ratio-spec : {M : Type 1} → statement M
-guarantee-ratio-spec = tie.close (tie.spec returns returns-2 cast-product mul-product cast-t4 div-t5 returns-3)
+guarantee-ratio-spec = tie.close (tie.spec returns returns-2 (λ c. search needs) (λ c. search needs) (λ c. search needs) (λ c. search needs) returns-3)

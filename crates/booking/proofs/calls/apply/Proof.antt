@@ -4,18 +4,9 @@ use Rattle.reservation.proofs.Demands.{demand-1-of-code}
 use Rattle.booking.proofs.calls.apply.Statement.{statement}
 use Rattle.booking.proofs.calls.apply.Tie as tie
 
-apply-requires : tie.Need-apply-requires
-apply-requires c κs = search needs
-
-print-answer-requires : tie.Need-print-answer-requires
-print-answer-requires c κs = search needs
-
 check-refused-requires : tie.Need-check-refused-requires
 check-refused-requires c κs = demand-1-of-code (c .before .before .pre) (c .before .apply .ensures) .untouched
 
-returns : tie.Need-returns
-returns c = search needs
-
 pub apply-spec : {M : Type 1} → statement M
 apply-spec =
-    tie.close (tie.spec apply-requires print-answer-requires check-refused-requires returns)
+    tie.close (tie.spec (λ c κs. search needs) (λ c κs. search needs) check-refused-requires (λ c. search needs))

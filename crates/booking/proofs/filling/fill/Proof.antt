@@ -14,14 +14,8 @@ abbrev μ-loop : tie.MeasureT-loop
 loop-holds : tie.Need-loop-holds Inv-loop μ-loop
 loop-holds c = c .pre
 
-one-row-requires : tie.Need-one-row-requires Inv-loop μ-loop
-one-row-requires c κs = tt
-
 submit-requires : tie.Need-submit-requires Inv-loop μ-loop
 submit-requires c κs = c .before .before .loop .inv
-
-print-answer-requires : tie.Need-print-answer-requires Inv-loop μ-loop
-print-answer-requires c κs = tt
 
 returns : tie.Need-returns Inv-loop μ-loop
 returns c = c .before .before .before .before .submit .ensures .valid
@@ -45,9 +39,9 @@ fill-spec =
     Inv-loop
     μ-loop
     loop-holds
-    one-row-requires
+    (λ c κs. tt)
     submit-requires
-    print-answer-requires
+    (λ c κs. tt)
     returns
     add-number
     loop-less

@@ -10,20 +10,11 @@ Inv-loop volume messages₀ i₀ messages i = Unit {0}
 abbrev μ-loop : tie.MeasureT-loop
 μ-loop volume messages₀ i₀ messages i = 32 - i
 
-message-requires : tie.Need-message-requires Inv-loop μ-loop
-message-requires c κs = tt
-
-loop-holds : tie.Need-loop-holds Inv-loop μ-loop
-loop-holds c = tt
-
 add-message : tie.Need-add-message Inv-loop μ-loop
 add-message c = omega arith
 
 add-message-2 : tie.Need-add-message-2 Inv-loop μ-loop
 add-message-2 c = omega arith
-
-message-requires-2 : tie.Need-message-requires-2 Inv-loop μ-loop
-message-requires-2 c κs = tt
 
 mul-messages : tie.Need-mul-messages Inv-loop μ-loop
 mul-messages c = omega arith
@@ -37,26 +28,20 @@ add-i c = omega arith
 loop-less : tie.Need-loop-less Inv-loop μ-loop
 loop-less c = omega arith
 
-loop-again : tie.Need-loop-again Inv-loop μ-loop
-loop-again c = tt
-
-returns : tie.Need-returns Inv-loop μ-loop
-returns c = tt
-
 pub across-spec : {M : Type 1} → statement M
 across-spec =
     tie.close
     (tie.spec
     Inv-loop
     μ-loop
-    message-requires
-    loop-holds
+    (λ c κs. tt)
+    (λ c. tt)
     add-message
     add-message-2
-    message-requires-2
+    (λ c κs. tt)
     mul-messages
     array-set-from-messages
     add-i
     loop-less
-    loop-again
-    returns)
+    (λ c. tt)
+    (λ c. tt))

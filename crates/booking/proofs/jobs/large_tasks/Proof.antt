@@ -10,15 +10,6 @@ Inv-loop tasks₀ i₀ tasks i = Unit {0}
 abbrev μ-loop : tie.MeasureT-loop
 μ-loop tasks₀ i₀ tasks i = 16 - i
 
-task-requires : tie.Need-task-requires Inv-loop μ-loop
-task-requires c κs = tt
-
-loop-holds : tie.Need-loop-holds Inv-loop μ-loop
-loop-holds c = tt
-
-task-requires-2 : tie.Need-task-requires-2 Inv-loop μ-loop
-task-requires-2 c κs = tt
-
 mul-tasks : tie.Need-mul-tasks Inv-loop μ-loop
 mul-tasks c = omega arith
 
@@ -31,24 +22,18 @@ add-i c = omega arith
 loop-less : tie.Need-loop-less Inv-loop μ-loop
 loop-less c = omega arith
 
-loop-again : tie.Need-loop-again Inv-loop μ-loop
-loop-again c = tt
-
-returns : tie.Need-returns Inv-loop μ-loop
-returns c = tt
-
 pub large-tasks-spec : {M : Type 1} → statement M
 large-tasks-spec =
     tie.close
     (tie.spec
     Inv-loop
     μ-loop
-    task-requires
-    loop-holds
-    task-requires-2
+    (λ c κs. tt)
+    (λ c. tt)
+    (λ c κs. tt)
     mul-tasks
     array-set-from-tasks
     add-i
     loop-less
-    loop-again
-    returns)
+    (λ c. tt)
+    (λ c. tt))

@@ -14,6 +14,14 @@ Inv-loop job count last₀ i₀ last i = Ascends job last i
 abbrev μ-loop : tie.MeasureT-loop
 μ-loop job count last₀ i₀ last i = count - i
 
+-- The stops that the proof goes back to.
+
+abbrev head : tie.Else1 Inv-loop μ-loop → tie.At-loop Inv-loop μ-loop
+head c = c .before .before .before .before
+
+abbrev turn : tie.After-stands-before Inv-loop μ-loop → tie.In-loop Inv-loop μ-loop
+turn c = c .before .before .before .before
+
 loop-holds : tie.Need-loop-holds Inv-loop μ-loop
 loop-holds c = ascends-none _ (search length-mapped)
 
@@ -23,24 +31,18 @@ mul-msg c = let most = counts-in-range (c .before .before .pre) in omega arith
 element-copy-out-msg : tie.Need-element-copy-out-msg Inv-loop μ-loop
 element-copy-out-msg c = let most = counts-in-range (c .before .before .pre) in omega arith
 
-message-outside-requires : tie.Need-message-outside-requires Inv-loop μ-loop
-message-outside-requires c κs = tt
-
 returns : tie.Need-returns Inv-loop μ-loop
 returns c =
     let at = c .before .before .before .before in
     message-bad (at .before .pre) (at .loop .inv) (c .before .before .before .loop-test .taken) (sym (c .before .message-outside .ensures) ∙ c .if1 .taken)
 
-stands-before-requires : tie.Need-stands-before-requires Inv-loop μ-loop
-stands-before-requires c κs = tt
-
 returns-2 : tie.Need-returns-2 Inv-loop μ-loop
 returns-2 c =
-    let at = c .before .before .before .before .before .before in
+    let at = head (c .before .before) in
     order-bad
     (at .before .pre)
     (at .loop .inv)
-    (c .before .before .before .before .before .loop-test .taken)
+    (turn (c .before) .loop-test .taken)
     (sym (c .before .before .before .message-outside .ensures) ∙ c .before .before .if1 .left)
     (sym (c .before .stands-before .ensures) ∙ not-true _ (c .if2 .taken))
 
@@ -52,11 +54,11 @@ loop-less c = omega arith
 
 loop-again : tie.Need-loop-again Inv-loop μ-loop
 loop-again c =
-    let at = c .before .before .before .before .before .before in
+    let at = head (c .before .before) in
     ascends-more
     (at .before .pre)
     (at .loop .inv)
-    (c .before .before .before .before .before .loop-test .taken)
+    (turn (c .before) .loop-test .taken)
     (sym (c .before .before .before .message-outside .ensures) ∙ c .before .before .if1 .left)
     (sym (c .before .stands-before .ensures) ∙ not-false _ (c .if2 .left))
 
@@ -72,9 +74,9 @@ bad-messages-spec =
     loop-holds
     mul-msg
     element-copy-out-msg
-    message-outside-requires
+    (λ c κs. tt)
     returns
-    stands-before-requires
+    (λ c κs. tt)
     returns-2
     add-i
     loop-less

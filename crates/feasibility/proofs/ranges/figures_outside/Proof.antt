@@ -13,6 +13,11 @@ Inv-loop its table m₀ m = NoneOf (too-long (its .runs)) (table .machines) m
 abbrev μ-loop : tie.MeasureT-loop
 μ-loop its table m₀ m = table .machines - m
 
+-- The stops that the proof goes back to.
+
+abbrev start : tie.After-table Inv-loop μ-loop → tie.Start Inv-loop μ-loop
+start c = c .before .before .before .before
+
 returns : tie.Need-returns Inv-loop μ-loop
 returns c = deadline-outside _ _ (outside-below 1 horizon _ (c .if1 .taken))
 
@@ -43,7 +48,7 @@ loop-less c = omega arith
 loop-again : tie.Need-loop-again Inv-loop μ-loop
 loop-again c =
     let at = c .before .before .before .before in
-    run-inside (at .before .before .before .before .before .args .t2 .runs) (at .loop .inv) (c .before .before .if4 .taken) (c .if5 .left)
+    run-inside (start (at .before) .args .t2 .runs) (at .loop .inv) (c .before .before .if4 .taken) (c .if5 .left)
 
 returns-5 : tie.Need-returns-5 Inv-loop μ-loop
 returns-5 c =

@@ -7,16 +7,24 @@ use Rattle.feasibility.proofs.Ranged.{outside-below, outside-above, ins
 use Rattle.feasibility.proofs.ranges.message_outside.Statement.{statement}
 use Rattle.feasibility.proofs.ranges.message_outside.Tie as tie
 
+-- The stops that the proof goes back to.
+
+abbrev start : tie.After-struct-known3 → tie.Start
+start c = c .before .before .before .before
+
+abbrev tested-2 : tie.After-struct-known6 → tie.Else2
+tested-2 c = c .before .before .before .before
+
 -- The ranges that are passed, at the place behind each.
 
 abbrev sender-start : tie.Else2 → tie.Start
-sender-start c = c .before .before .before .before .before
+sender-start c = start (c .before)
 
 sent : (c : tie.Else2) → let a = sender-start c .args in outside 1 (a .job .taskcount) (a .msg .sender) ≡ false
 sent c = let a = sender-start c .args in inside 1 (a .job .taskcount) (a .msg .sender) (c .before .before .before .if1 .left) (c .if2 .left)
 
 abbrev sender-passed : tie.Else4 → tie.Else2
-sender-passed c = c .before .before .before .before .before
+sender-passed c = tested-2 (c .before)
 
 received : (c : tie.Else4) → let a = sender-start (sender-passed c) .args in outside 1 (a .job .taskcount) (a .msg .receiver) ≡ false
 received c =
@@ -30,7 +38,7 @@ returns c = let a = c .before .before .args in rw (outside-below 1 (a .job .task
 returns-2 : tie.Need-returns-2
 unfolding message-out-of-range
 returns-2 c =
-    let a = c .before .before .before .before .before .args in
+    let a = start (c .before) .args in
     rw (outside-above 1 (a .job .taskcount) (a .msg .sender) (c .if2 .taken)) refl
 
 returns-3 : tie.Need-returns-3
@@ -42,7 +50,7 @@ returns-3 c =
 returns-4 : tie.Need-returns-4
 unfolding message-out-of-range
 returns-4 c =
-    let behind = c .before .before .before .before .before in
+    let behind = tested-2 (c .before) in
     let a = sender-start behind .args in
     rw (sent behind, outside-above 1 (a .job .taskcount) (a .msg .receiver) (c .if4 .taken)) refl
 

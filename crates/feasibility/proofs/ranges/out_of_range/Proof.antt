@@ -1,6 +1,7 @@
 -- `feasibility::ranges::out_of_range` meets its contract: the figures of the first t tasks are in range.
 use Prim.Native.Nat.{_-_, _<_}
 use native.Mathlib.Omega.{arith}
+use Rattle.rules.specs.Words.{most-tasks}
 use Rattle.rules.specs.Refusals.{task-out-of-range}
 use Rattle.feasibility.proofs.Ranged.{counts-in-range, NoneOf, none-first, scheduling-outside, task-inside, task-outside, tasks-inside}
 use Rattle.feasibility.proofs.ranges.out_of_range.Statement.{statement}
@@ -18,7 +19,7 @@ returns c = scheduling-outside (c .before .pre) (c .if1 .taken)
 loop-holds : tie.Need-loop-holds Inv-loop μ-loop
 loop-holds c = none-first
 
-its-below : (c : tie.In-loop Inv-loop μ-loop) → c .before .loop .t < 16
+its-below : (c : tie.In-loop Inv-loop μ-loop) → c .before .loop .t < most-tasks
 its-below c = omega (arith, counts-in-range (c .before .before .before .pre .counts) .tasks-at-most)
 
 mul-its : tie.Need-mul-its Inv-loop μ-loop

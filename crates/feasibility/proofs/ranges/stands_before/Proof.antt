@@ -9,6 +9,11 @@ use Rattle.rules.proofs.Choice.{false-precedes, lower-precedes}
 use Rattle.feasibility.proofs.ranges.stands_before.Statement.{statement}
 use Rattle.feasibility.proofs.ranges.stands_before.Tie as tie
 
+-- The stops that the proof goes back to.
+
+abbrev start : tie.After-struct-known3 → tie.Start
+start c = c .before .before .before .before
+
 returns : tie.Need-returns
 returns c = sym (lower-precedes _ _ _ _ (c .if1 .taken))
 
@@ -18,8 +23,8 @@ returns-2 c = let less = c .if2 .taken in sym (false-precedes _ _ _ _ (omega ari
 returns-3 : tie.Need-returns-3
 unfolding precedes
 returns-3 c =
-    let a = c .before .before .before .before .before .before .before .before .args .a in
-    let b = c .before .before .before .before .before .before .before .before .args .b in
+    let a = start (c .before .before .before .before) .args .a in
+    let b = start (c .before .before .before .before) .args .b in
     let not-below = le-ltb (a .receiver) (b .receiver) (omega arith) in
     let same = eq-eqb (a .receiver) (b .receiver) (omega arith) in
     rw (not-below, same, and-false (eqb (a .sender) (b .sender)), or-false (ltb (a .sender) (b .sender))) refl

@@ -6,12 +6,6 @@ use Rattle.placement.proofs.Figures.{transfer-at-most, message-cost-at-
 use Rattle.placement.proofs.bookings.message_row.Statement.{statement}
 use Rattle.placement.proofs.bookings.message_row.Tie as tie
 
-transfer-of-requires : tie.Need-transfer-of-requires
-transfer-of-requires c κs = search needs
-
-transfer-rate-requires : tie.Need-transfer-rate-requires
-transfer-rate-requires c κs = search needs
-
 add-t10 : tie.Need-add-t10
 add-t10 c =
     let most = transfer-at-most (c .before .before .pre .moves) in
@@ -27,4 +21,4 @@ returns c = λ j number. rw (number, c .before .transfer-of .ensures, c .transfe
 
 pub message-row-spec : {M : Type 1} → statement M
 message-row-spec =
-    tie.close (tie.spec transfer-of-requires transfer-rate-requires add-t10 mul-t11 returns)
+    tie.close (tie.spec (λ c κs. search needs) (λ c κs. search needs) add-t10 mul-t11 returns)

@@ -6,12 +6,6 @@ use Rattle.placement.proofs.Figures.{task-cost-at-most}
 use Rattle.placement.proofs.bookings.task_row.Statement.{statement}
 use Rattle.placement.proofs.bookings.task_row.Tie as tie
 
-add-t8 : tie.Need-add-t8
-add-t8 c = search needs
-
-machine-rate-requires : tie.Need-machine-rate-requires
-machine-rate-requires c κs = search needs
-
 mul-t10 : tie.Need-mul-t10
 mul-t10 c =
     let most = task-cost-at-most (c .before .pre) in
@@ -21,4 +15,4 @@ returns : tie.Need-returns
 returns c = λ j number run. rw (number, run, c .machine-rate .ensures) refl
 
 pub task-row-spec : {M : Type 1} → statement M
-task-row-spec = tie.close (tie.spec add-t8 machine-rate-requires mul-t10 returns)
+task-row-spec = tie.close (tie.spec (λ c. search needs) (λ c κs. search needs) mul-t10 returns)

@@ -6,9 +6,6 @@ use Rattle.placement.proofs.Figures.{transfer-at-most}
 use Rattle.placement.proofs.bookings.transfer_of.Statement.{statement}
 use Rattle.placement.proofs.bookings.transfer_of.Tie as tie
 
-transfer-time-requires : tie.Need-transfer-time-requires
-transfer-time-requires c κs = search needs
-
 mul-result : tie.Need-mul-result
 mul-result c =
     let most = transfer-at-most (c .before .before .pre) in
@@ -18,4 +15,4 @@ returns : tie.Need-returns
 returns c = rw (c .before .transfer-time .ensures) refl
 
 pub transfer-of-spec : {M : Type 1} → statement M
-transfer-of-spec = tie.close (tie.spec transfer-time-requires mul-result returns)
+transfer-of-spec = tie.close (tie.spec (λ c κs. search needs) mul-result returns)

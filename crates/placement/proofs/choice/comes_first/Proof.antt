@@ -6,9 +6,6 @@ use borrow.Author.Tests.{lt-ltb, le-ltb, eq-eqb, ne-eqb, not-false}
 use Rattle.placement.proofs.choice.comes_first.Statement.{statement}
 use Rattle.placement.proofs.choice.comes_first.Tie as tie
 
-returns : tie.Need-returns
-returns c = search needs
-
 returns-2 : tie.Need-returns-2
 returns-2 c =
     let a = c .before .before .args in
@@ -18,7 +15,12 @@ returns-3 : tie.Need-returns-3
 returns-3 c =
     let a = c .before .before .before .args in
     let less = c .if3 .taken in
-    rw (not-false (a .found) (c .before .before .if1 .left), le-ltb (a .cost) (a .best-cost) (omega arith), ne-eqb (a .cost) (a .best-cost) (λ e. omega arith)) refl
+    rw (
+      not-false (a .found) (c .before .before .if1 .left),
+      le-ltb (a .cost) (a .best-cost) (omega arith),
+      ne-eqb (a .cost) (a .best-cost)
+          (λ e. omega arith),
+    ) refl
 
 returns-4 : tie.Need-returns-4
 returns-4 c =
@@ -28,4 +30,4 @@ returns-4 c =
     rw (not-false (a .found) (c .before .before .if1 .left), le-ltb (a .cost) (a .best-cost) least, eq-eqb (a .cost) (a .best-cost) (omega arith)) refl
 
 pub comes-first-spec : {M : Type 1} → statement M
-comes-first-spec = tie.close (tie.spec returns returns-2 returns-3 returns-4)
+comes-first-spec = tie.close (tie.spec (λ c. search needs) returns-2 returns-3 returns-4)

@@ -5,7 +5,8 @@ use native.Mathlib.Omega.{arith}
 use native.Mathlib.Numerals.{add-one}
 use lib.ListN.{length}
 use borrow.Author.Needs.{needs}
-use Rattle.placement.proofs.Sums.{less-next, held-below, held-fits, held-turn-fits}
+use Rattle.rules.specs.Words.{row-limit}
+use Rattle.rules.proofs.Sums.{less-next, index-below, next-fits, index-fits}
 use Rattle.placement.proofs.Mirror.{Filled, filled-none, filled-more}
 use Rattle.placement.specs.Columns.{ColumnOf}
 use Rattle.placement.proofs.Made.{made-none, made-more, made-fewer}
@@ -19,14 +20,22 @@ Inv-loop count jobs₀ resources₀ starts₀ finishes₀ rows i₀ jobs resourc
 abbrev μ-loop : tie.MeasureT-loop
 μ-loop count jobs₀ resources₀ starts₀ finishes₀ rows i₀ jobs resources starts finishes i = count - i
 
+-- The stops that the proof goes back to.
+
+abbrev head : tie.After-put-arg2 Inv-loop μ-loop → tie.At-loop Inv-loop μ-loop
+head c = c .before .before .before .before
+
+abbrev turn : tie.After-put-arg3 Inv-loop μ-loop → tie.In-loop Inv-loop μ-loop
+turn c = c .before .before .before .before
+
 loop-holds : tie.Need-loop-holds Inv-loop μ-loop
 loop-holds c = (filled-none (c .args .t1) (c .args .count) (c .pre .widths), made-none 0 _ _ _ (c .pre .jobs-long))
 
-row-below : (c : tie.In-loop Inv-loop μ-loop) → c .before .loop .i < 256
-row-below c = held-below _ _ (c .loop-test .taken) (c .before .before .pre .count-at-most)
+row-below : (c : tie.In-loop Inv-loop μ-loop) → c .before .loop .i < row-limit
+row-below c = index-below (c .loop-test .taken) (c .before .before .pre .count-at-most)
 
 mul-row : tie.Need-mul-row Inv-loop μ-loop
-mul-row c = held-fits _ (row-below c)
+mul-row c = index-fits _ (row-below c) refl
 
 array-copy-out-row : tie.Need-array-copy-out-row Inv-loop μ-loop
 array-copy-out-row c = row-below c
@@ -39,25 +48,25 @@ element-write-jobs c = row-below (c .before)
 
 put-requires : tie.Need-put-requires Inv-loop μ-loop
 put-requires c κs =
-    let at = c .before .before .before .before .before in
+    let at = head (c .before) in
     (omega arith, at .before .pre .numbered (at .loop .i) (c .before .before .before .before .loop-test .taken))
 
 add-i : tie.Need-add-i Inv-loop μ-loop
-add-i c = held-turn-fits _ (row-below (c .before .before .before .before .before))
+add-i c = next-fits (row-below (turn (c .before))) refl
 
 loop-less : tie.Need-loop-less Inv-loop μ-loop
-loop-less c = less-next _ _ (c .before .before .before .before .before .loop-test .taken)
+loop-less c = less-next _ _ (turn (c .before) .loop-test .taken)
 
 loop-again : tie.Need-loop-again Inv-loop μ-loop
 loop-again c =
-    let at = c .before .before .before .before .before .before in
+    let at = head (c .before .before) in
     let a = at .before .args in
-    let long : length (a .t1) ≡ 256 = search needs in
+    let long : length (a .t1) ≡ row-limit = search needs in
     let put = c .put .ensures in
     rw
     (put .0, put .1 .0, put .1 .1, add-one) (
       filled-more (a .t1) (a .count) (at .loop .inv .0) (omega arith) (omega arith) (omega arith),
-      made-more (at .loop .inv .1) (row-below (c .before .before .before .before .before)) _ refl,
+      made-more (at .loop .inv .1) (row-below (turn (c .before))) _ refl,
     )
 
 returns : tie.Need-returns Inv-loop μ-loop

@@ -2,7 +2,9 @@
 use mathlib.Core.Logic.{⊎-elim}
 use Prim.Native.Nat.{_-_, _<_}
 use borrow.Author.Tests.{leb-true, leb-false}
-use Rattle.placement.proofs.Sums.{less-next, task-turn-below, task-turn-fits, task-fits, standing-fits}
+use mathlib.Core.Path.{refl}
+use Rattle.rules.specs.Words.{most-tasks}
+use Rattle.rules.proofs.Sums.{less-next, index-below, next-fits, index-fits}
 use Rattle.placement.proofs.Tasks.{Best, best-none, best-placed, best-waits, best-kept, best-taken, best-found}
 use Rattle.placement.proofs.order.next_ready.Statement.{statement}
 use Rattle.placement.proofs.order.next_ready.Tie as tie
@@ -13,26 +15,31 @@ Inv-loop job standing waits best₀ deadline₀ t₀ best deadline t = Best job 
 abbrev μ-loop : tie.MeasureT-loop
 μ-loop job standing waits best₀ deadline₀ t₀ best deadline t = job .taskcount - t
 
+-- The stops that the proof goes back to.
+
+abbrev turn : tie.Then3 Inv-loop μ-loop → tie.In-loop Inv-loop μ-loop
+turn c = c .before .before .before .before
+
 waiting-requires : tie.Need-waiting-requires Inv-loop μ-loop
 waiting-requires c κs = c .pre
 
 loop-holds : tie.Need-loop-holds Inv-loop μ-loop
 loop-holds c = best-none _ _ _
 
-its-below : (c : tie.In-loop Inv-loop μ-loop) → c .before .loop .t < 16
-its-below c = task-turn-below _ _ (c .loop-test .taken) (c .before .before .before .pre .tasks)
+its-below : (c : tie.In-loop Inv-loop μ-loop) → c .before .loop .t < most-tasks
+its-below c = index-below (c .loop-test .taken) (c .before .before .before .pre .tasks)
 
 mul-its : tie.Need-mul-its Inv-loop μ-loop
-mul-its c = task-fits _ (its-below c)
+mul-its c = index-fits _ (its-below c) refl
 
 element-copy-out-its : tie.Need-element-copy-out-its Inv-loop μ-loop
 element-copy-out-its c = its-below c
 
 add-t : tie.Need-add-t Inv-loop μ-loop
-add-t c = task-turn-fits _ _ (c .loop-test .taken) (c .before .before .before .pre .tasks)
+add-t c = next-fits (index-below (c .loop-test .taken) (c .before .before .before .pre .tasks)) refl
 
 mul-if1 : tie.Need-mul-if1 Inv-loop μ-loop
-mul-if1 c = standing-fits _ (its-below c)
+mul-if1 c = index-fits _ (its-below c) refl
 
 element-copy-out-if1 : tie.Need-element-copy-out-if1 Inv-loop μ-loop
 element-copy-out-if1 c = its-below c
@@ -58,11 +65,11 @@ loop-again-2 c =
     best-waits (at .before .loop .inv) (start .before .pre) (at .loop-test .taken) (start .waiting .ensures) (c .if2 .taken)
 
 loop-less-3 : tie.Need-loop-less-3 Inv-loop μ-loop
-loop-less-3 c = less-next _ _ (c .before .before .before .before .before .loop-test .taken)
+loop-less-3 c = less-next _ _ (turn (c .before) .loop-test .taken)
 
 loop-again-3 : tie.Need-loop-again-3 Inv-loop μ-loop
 loop-again-3 c =
-    let at = c .before .before .before .before .before in
+    let at = turn (c .before) in
     let start = at .before .before in
     best-kept
     (at .before .loop .inv)

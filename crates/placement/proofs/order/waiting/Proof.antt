@@ -1,8 +1,9 @@
 -- `placement::order::waiting` meets its contract: after i messages the tasks marked are those that wait by one of them.
 use Prim.Native.Nat.{_-_, _<_, _≤_}
 use native.Mathlib.Omega.{arith}
-use Rattle.rules.specs.Words.{most-tasks}
-use Rattle.placement.proofs.Sums.{less-next, turn-below, turn-fits, message-fits, standing-fits, sender-below}
+use mathlib.Core.Path.{refl}
+use Rattle.rules.specs.Words.{most-tasks, most-messages}
+use Rattle.rules.proofs.Sums.{less-next, index-below, listed-below, next-fits, index-fits}
 use Rattle.rules.proofs.Indexed.{length-mapped, message-at}
 use Rattle.placement.proofs.Tasks.{Waited, waited-none, waited-placed, waited-unplaced, waited-all, sender-within, receiver-within}
 use Rattle.placement.proofs.order.waiting.Statement.{statement}
@@ -14,20 +15,25 @@ Inv-loop job standing waits₀ count i₀ waits i = Waited job (standing .machin
 abbrev μ-loop : tie.MeasureT-loop
 μ-loop job standing waits₀ count i₀ waits i = count - i
 
+-- The stops that the proof goes back to.
+
+abbrev turn : tie.Then1 Inv-loop μ-loop → tie.In-loop Inv-loop μ-loop
+turn c = c .before .before .before .before
+
 loop-holds : tie.Need-loop-holds Inv-loop μ-loop
 loop-holds c = waited-none _ _ _ (c .pre) (search length-mapped)
 
-message-below : (c : tie.In-loop Inv-loop μ-loop) → c .before .loop .i < 32
-message-below c = turn-below _ _ (c .loop-test .taken) (c .before .before .pre .messages)
+message-below : (c : tie.In-loop Inv-loop μ-loop) → c .before .loop .i < most-messages
+message-below c = index-below (c .loop-test .taken) (c .before .before .pre .messages)
 
 mul-msg : tie.Need-mul-msg Inv-loop μ-loop
-mul-msg c = message-fits _ (message-below c)
+mul-msg c = index-fits _ (message-below c) refl
 
 element-copy-out-msg : tie.Need-element-copy-out-msg Inv-loop μ-loop
 element-copy-out-msg c = message-below c
 
 add-i : tie.Need-add-i Inv-loop μ-loop
-add-i c = turn-fits _ (message-below (c .before))
+add-i c = next-fits (message-below (c .before)) refl
 
 sender :
     (c : tie.In-loop Inv-loop μ-loop) →
@@ -39,10 +45,10 @@ sub-sender : tie.Need-sub-sender Inv-loop μ-loop
 sub-sender c = sender (c .before .before) .0
 
 mul-if1 : tie.Need-mul-if1 Inv-loop μ-loop
-mul-if1 c = standing-fits _ (sender-below _ (sender (c .before .before)))
+mul-if1 c = index-fits _ (listed-below (sender (c .before .before))) refl
 
 element-copy-out-if1 : tie.Need-element-copy-out-if1 Inv-loop μ-loop
-element-copy-out-if1 c = sender-below _ (sender (c .before .before))
+element-copy-out-if1 c = listed-below (sender (c .before .before))
 
 receiver :
     (c : tie.In-loop Inv-loop μ-loop) →
@@ -51,17 +57,17 @@ receiver :
 receiver c = receiver-within (c .before .before .pre) (c .before .loop .inv) (c .loop-test .taken)
 
 sub-receiver : tie.Need-sub-receiver Inv-loop μ-loop
-sub-receiver c = receiver (c .before .before .before .before .before) .0
+sub-receiver c = receiver (turn (c .before)) .0
 
 array-write-waits : tie.Need-array-write-waits Inv-loop μ-loop
-array-write-waits c = let within = receiver (c .before .before .before .before .before) in omega arith
+array-write-waits c = let within = receiver (turn (c .before)) in omega arith
 
 loop-less : tie.Need-loop-less Inv-loop μ-loop
-loop-less c = less-next _ _ (c .before .before .before .before .before .loop-test .taken)
+loop-less c = less-next _ _ (turn (c .before) .loop-test .taken)
 
 loop-again : tie.Need-loop-again Inv-loop μ-loop
 loop-again c =
-    let at = c .before .before .before .before .before in
+    let at = turn (c .before) in
     waited-unplaced (at .before .before .pre) (at .before .loop .inv) (at .loop-test .taken) (c .before .if1 .taken)
 
 loop-less-2 : tie.Need-loop-less-2 Inv-loop μ-loop

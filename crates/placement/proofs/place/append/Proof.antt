@@ -3,8 +3,9 @@ use mathlib.Core.Path.{refl}
 use Prim.Native.Nat.{_-_, _+_, _<_}
 use native.Mathlib.Omega.{arith}
 use native.Mathlib.Numerals.{add-one}
+use Rattle.rules.specs.Words.{most-messages}
+use Rattle.rules.proofs.Sums.{less-next, index-below, behind-below, below-fits, at-most-fits, next-fits, index-fits}
 use Rattle.placement.specs.Placements.{most-own}
-use Rattle.placement.proofs.Sums.{less-next, tried-below, behind-below, row-fits, count-fits, own-fits, own-row-fits, own-all-fits}
 use Rattle.placement.proofs.Appending.{Appending, appending-none, appending-more, appending-all}
 use Rattle.placement.proofs.place.append.Statement.{statement}
 use Rattle.placement.proofs.place.append.Tie as tie
@@ -16,26 +17,34 @@ Inv-loop own resources₀ starts₀ finishes₀ used tried rows₀ first more i�
 abbrev μ-loop : tie.MeasureT-loop
 μ-loop own resources₀ starts₀ finishes₀ used tried rows₀ first more i₀ resources starts finishes rows i = more - i
 
+-- The stops that the proof goes back to.
+
+abbrev head : tie.After-put-arg2 Inv-loop μ-loop → tie.At-loop Inv-loop μ-loop
+head c = c .before .before .before .before
+
+abbrev turn : tie.After-put-arg3 Inv-loop μ-loop → tie.In-loop Inv-loop μ-loop
+turn c = c .before .before .before .before
+
 loop-holds : tie.Need-loop-holds Inv-loop μ-loop
 loop-holds c = appending-none (c .before .pre)
 
-row-below : (c : tie.In-loop Inv-loop μ-loop) → c .before .loop .i < 33
-row-below c = tried-below _ _ (c .loop-test .taken) (c .before .before .before .pre .bounds .count-at-most)
+row-below : (c : tie.In-loop Inv-loop μ-loop) → c .before .loop .i < most-messages + 1
+row-below c = index-below (c .loop-test .taken) (c .before .before .before .pre .bounds .count-at-most)
 
-slot-below : (c : tie.In-loop Inv-loop μ-loop) → c .before .before .before .args .own .count + c .before .loop .i < 48
+slot-below : (c : tie.In-loop Inv-loop μ-loop) → c .before .before .before .args .own .count + c .before .loop .i < most-own
 slot-below c = behind-below _ _ _ most-own (c .loop-test .taken) (c .before .before .before .pre .rows-fit)
 
 mul-row : tie.Need-mul-row Inv-loop μ-loop
-mul-row c = row-fits _ (row-below c)
+mul-row c = index-fits _ (row-below c) refl
 
 element-copy-out-row : tie.Need-element-copy-out-row Inv-loop μ-loop
 element-copy-out-row c = row-below c
 
 add-rows : tie.Need-add-rows Inv-loop μ-loop
-add-rows c = own-fits _ (slot-below (c .before))
+add-rows c = below-fits (slot-below (c .before)) refl
 
 mul-rows : tie.Need-mul-rows Inv-loop μ-loop
-mul-rows c = own-row-fits _ (slot-below (c .before))
+mul-rows c = index-fits _ (slot-below (c .before)) refl
 
 array-set-from-rows : tie.Need-array-set-from-rows Inv-loop μ-loop
 array-set-from-rows c = slot-below (c .before)
@@ -45,25 +54,25 @@ add-put c = omega arith
 
 put-requires : tie.Need-put-requires Inv-loop μ-loop
 put-requires c κs =
-    let at = c .before .before .before .before .before in
+    let at = head (c .before) in
     (omega arith, at .before .before .pre .numbered (at .loop .i) (c .before .before .before .before .loop-test .taken))
 
 add-i : tie.Need-add-i Inv-loop μ-loop
-add-i c = count-fits _ (row-below (c .before .before .before .before .before))
+add-i c = next-fits (row-below (turn (c .before))) refl
 
 loop-less : tie.Need-loop-less Inv-loop μ-loop
-loop-less c = less-next _ _ (c .before .before .before .before .before .loop-test .taken)
+loop-less c = less-next _ _ (turn (c .before) .loop-test .taken)
 
 loop-again : tie.Need-loop-again Inv-loop μ-loop
 loop-again c =
-    let at = c .before .before .before .before .before .before in
+    let at = head (c .before .before) in
     let put = c .put .ensures in
     rw
     (put .0, put .1 .0, put .1 .1, add-one)
-    (appending-more (at .before .before .pre) (at .loop .inv) (c .before .before .before .before .before .loop-test .taken) _ refl)
+    (appending-more (at .before .before .pre) (at .loop .inv) (turn (c .before) .loop-test .taken) _ refl)
 
 add-t25 : tie.Need-add-t25 Inv-loop μ-loop
-add-t25 c = own-all-fits _ (c .before .before .before .pre .rows-fit)
+add-t25 c = at-most-fits (c .before .before .before .pre .rows-fit) refl
 
 add-t27 : tie.Need-add-t27 Inv-loop μ-loop
 add-t27 c = omega arith

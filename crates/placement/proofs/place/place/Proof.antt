@@ -1,25 +1,33 @@
 -- `placement::place::place` meets its contract.
 use mathlib.Core.Path.{refl}
 use native.Mathlib.Omega.{arith}
-use Rattle.placement.proofs.Chaining.{place-keyed}
+use Rattle.placement.proofs.Threading.{place-keyed}
 use Rattle.placement.proofs.place.place.Statement.{statement}
 use Rattle.placement.proofs.place.place.Tie as tie
 
-chain-on-requires : tie.Need-chain-on-requires
-chain-on-requires c κs = (place-keyed (c .before .before .pre), refl)
+-- The stops that the proof goes back to.
 
-chain-back-requires : tie.Need-chain-back-requires
-chain-back-requires c κs = (place-keyed (c .before .before .before .before .before .pre), refl)
+abbrev start : tie.After-thread-back-arg → tie.Start
+start c = c .before .before .before .before
+
+abbrev thread-back-done : tie.After-nexts2 → tie.After-thread-back
+thread-back-done c = c .before .before .before .before
+
+thread-on-requires : tie.Need-thread-on-requires
+thread-on-requires c κs = (place-keyed (c .before .before .pre), refl)
+
+thread-back-requires : tie.Need-thread-back-requires
+thread-back-requires c κs = (place-keyed (start (c .before) .pre), refl)
 
 place-tasks-requires : tie.Need-place-tasks-requires
 place-tasks-requires c κs =
-    let back = c .before .before .before .before .before in
+    let back = thread-back-done (c .before) in
     let on = back .before .before .before in
     let pre = on .before .before .before .pre in
-    (pre, record { few = pre .ask .count-at-most; within = omega arith; on = on .chain-on .ensures; back = back .chain-back .ensures })
+    (pre, record { few = pre .ask .count-at-most; within = omega arith; on = on .thread-on .ensures; back = back .thread-back .ensures })
 
 returns : tie.Need-returns
 returns c = c .place-tasks .ensures
 
 pub place-spec : {M : Type 1} → statement M
-place-spec = tie.close (tie.spec chain-on-requires chain-back-requires place-tasks-requires returns)
+place-spec = tie.close (tie.spec thread-on-requires thread-back-requires place-tasks-requires returns)

@@ -1,8 +1,9 @@
 -- `placement::search::after_last_of` meets its contract: none of those looked at is of the resource.
 use native.Mathlib.Omega.{arith}
 use Prim.Native.Nat.{_-_, _<_}
+use mathlib.Core.Path.{refl}
+use Rattle.rules.proofs.Sums.{index-fits}
 use Rattle.placement.specs.Columns.{room}
-use Rattle.placement.proofs.Sums.{entry-fits}
 use Rattle.placement.proofs.Passes.{LookedBack, back-looked-more}
 use Rattle.placement.proofs.search.after_last_of.Statement.{statement}
 use Rattle.placement.proofs.search.after_last_of.Tie as tie
@@ -23,7 +24,7 @@ sub-if1 : tie.Need-sub-if1 Inv-loop μ-loop
 sub-if1 c = omega (arith, c .loop-test .taken)
 
 mul-if1 : tie.Need-mul-if1 Inv-loop μ-loop
-mul-if1 c = entry-fits _ (entry-below c)
+mul-if1 c = index-fits _ (entry-below c) refl
 
 element-copy-out-if1 : tie.Need-element-copy-out-if1 Inv-loop μ-loop
 element-copy-out-if1 c = entry-below c
@@ -42,7 +43,8 @@ loop-less c = omega (arith, c .before .before .loop-test .taken)
 loop-again : tie.Need-loop-again Inv-loop μ-loop
 loop-again c =
     let a = c .before .before .before .before .args in
-    back-looked-more (a .key) (a .resources .now) (a .from) (a .below) (c .before .before .before .loop .left) (c .before .before .loop-test .taken) (c .before .before .before .loop .inv) (c .if1 .left)
+    back-looked-more (a .key) (a .resources .now) (a .from) (a .below) (c .before .before .before .loop .left) (c .before .before .loop-test .taken)
+    (c .before .before .before .loop .inv) (c .if1 .left)
 
 returns-2 : tie.Need-returns-2 Inv-loop μ-loop
 returns-2 c =

@@ -3,7 +3,7 @@ use Prim.Native.Nat.{_<_, _-_}
 use native.Mathlib.Omega.{arith}
 use Rattle.placement.specs.Columns.{spans-of, tick-bound}
 use Rattle.placement.proofs.Passes.{Seeking, seeking-none, seeking-more, found-back, seeking-found, swept-bound, back-from, back-bound}
-use Rattle.placement.proofs.Chaining.{on-along, back-along}
+use Rattle.placement.proofs.Threading.{on-along, back-along}
 use Rattle.placement.proofs.search.least_free.Statement.{statement}
 use Rattle.placement.proofs.search.least_free.Tie as tie
 
@@ -13,6 +13,11 @@ Inv-loop resources starts finishes nexts backs held count key from len tick₀ l
 
 abbrev μ-loop : tie.MeasureT-loop
 μ-loop resources starts finishes nexts backs held count key from len tick₀ last₀ tick last = tick-bound - tick
+
+-- The stops that the proof goes back to.
+
+abbrev start-2 : tie.After-sweep-back Inv-loop μ-loop → tie.Start Inv-loop μ-loop
+start-2 c = c .before .before .before .before
 
 sweep-requires : tie.Need-sweep-requires Inv-loop μ-loop
 sweep-requires c κs = (c .pre .0, on-along (c .pre .1))
@@ -26,31 +31,35 @@ loop-holds c =
 
 sweep-back-requires : tie.Need-sweep-back-requires Inv-loop μ-loop
 sweep-back-requires c κs =
-    let pre = c .before .before .before .pre in
-    (record { spans = pre .0 .spans; from-below = c .before .loop .inv .below; len-above = pre .0 .len-above; len-below = pre .0 .len-below }, back-along (pre .1))
+    let pre = c .before .before .before .pre in (
+      record { spans = pre .0 .spans; from-below = c .before .loop .inv .below; len-above = pre .0 .len-above; len-below = pre .0 .len-below },
+      back-along
+          (pre .1),
+    )
 
 -- the pass back ends below the bound
 back-below : (c : tie.After-sweep-back Inv-loop μ-loop) → c .sweep-back .result < tick-bound
 back-below c =
     let start = c .before .before .before .before in
     let a = start .args in
-    let bound = back-bound (a .resources .now) (a .starts .now) (a .finishes .now) (a .count) (a .key) (a .len) _ (start .pre .0 .spans) (c .before .before .loop .inv .below) in
+    let bound = back-bound (a .resources .now) (a .starts .now) (a .finishes .now) (a .count) (a .key) (a .len) _ (start .pre .0 .spans)
+    (c .before .before .loop .inv .below) in
     rw (c .sweep-back .ensures) bound
 
 returns : tie.Need-returns Inv-loop μ-loop
 returns c =
-    let a = c .before .before .before .before .before .args in
+    let a = start-2 (c .before) .args in
     found-back (a .from) (a .len) _ (c .before .before .before .loop .inv) (c .before .sweep-back .ensures) (c .if1 .taken)
 
 sweep-requires-2 : tie.Need-sweep-requires-2 Inv-loop μ-loop
 sweep-requires-2 c κs =
-    let pre = c .before .before .before .before .before .pre in
+    let pre = start-2 (c .before) .pre in
     (record { spans = pre .0 .spans; from-below = back-below (c .before); len-above = pre .0 .len-above; len-below = pre .0 .len-below }, on-along (pre .1))
 
 loop-less : tie.Need-loop-less Inv-loop μ-loop
 loop-less c =
     let at = c .before .before .before .before in
-    let a = c .before .before .before .before .before .before .args in
+    let a = start-2 (c .before .before) .args in
     let on = back-from (a .len) (spans-of (a .key) (a .resources .now) (a .starts .now) (a .finishes .now) (a .count)) (at .loop .last) in
     let below = back-below (c .before .before) in
     let test = c .before .before .before .loop-test .taken in
@@ -58,10 +67,11 @@ loop-less c =
 
 loop-again : tie.Need-loop-again Inv-loop μ-loop
 loop-again c =
-    let start = c .before .before .before .before .before .before in
+    let start = start-2 (c .before .before) in
     let a = start .args in
     let inv = c .before .before .before .before .loop .inv in
-    let bound = swept-bound (a .resources .now) (a .starts .now) (a .finishes .now) (a .count) (a .key) (a .len) _ (start .pre .0 .spans) (back-below (c .before .before)) in
+    let bound = swept-bound (a .resources .now) (a .starts .now) (a .finishes .now) (a .count) (a .key) (a .len) _ (start .pre .0 .spans)
+    (back-below (c .before .before)) in
     seeking-more (a .from) (a .len) _ inv (c .before .before .sweep-back .ensures) (c .sweep2 .ensures) (rw (c .sweep2 .ensures) bound)
 
 returns-2 : tie.Need-returns-2 Inv-loop μ-loop

@@ -1,8 +1,9 @@
 -- `placement::search::next_of` meets its contract: none of those looked at is of the resource.
 use native.Mathlib.Omega.{arith}
 use Prim.Native.Nat.{_-_, _<_}
+use mathlib.Core.Path.{refl}
+use Rattle.rules.proofs.Sums.{less-next, index-below, next-fits, index-fits}
 use Rattle.placement.specs.Columns.{room}
-use Rattle.placement.proofs.Sums.{less-next, below-room, entry-fits, entry-turn-fits}
 use Rattle.placement.proofs.Passes.{Looked, looked-more}
 use Rattle.placement.proofs.search.next_of.Statement.{statement}
 use Rattle.placement.proofs.search.next_of.Tie as tie
@@ -17,10 +18,10 @@ loop-holds : tie.Need-loop-holds Inv-loop μ-loop
 loop-holds c = record { on = omega arith; within = c .pre .within; none = λ j a b. absurd (omega arith) }
 
 entry-below : (c : tie.In-loop Inv-loop μ-loop) → c .before .loop .i < room
-entry-below c = below-room _ _ (c .loop-test .taken) (c .before .before .pre .few)
+entry-below c = index-below (c .loop-test .taken) (c .before .before .pre .few)
 
 mul-if1 : tie.Need-mul-if1 Inv-loop μ-loop
-mul-if1 c = entry-fits _ (entry-below c)
+mul-if1 c = index-fits _ (entry-below c) refl
 
 element-copy-out-if1 : tie.Need-element-copy-out-if1 Inv-loop μ-loop
 element-copy-out-if1 c = entry-below c
@@ -31,7 +32,7 @@ returns c =
     record { on = inv .on; within = inv .within; none = inv .none; here = λ _. c .if1 .taken }
 
 add-i : tie.Need-add-i Inv-loop μ-loop
-add-i c = entry-turn-fits _ (entry-below (c .before .before))
+add-i c = next-fits (entry-below (c .before .before)) refl
 
 loop-less : tie.Need-loop-less Inv-loop μ-loop
 loop-less c = less-next _ _ (c .before .before .loop-test .taken)
@@ -39,7 +40,8 @@ loop-less c = less-next _ _ (c .before .before .loop-test .taken)
 loop-again : tie.Need-loop-again Inv-loop μ-loop
 loop-again c =
     let a = c .before .before .before .before .args in
-    looked-more (a .key) (a .resources .now) (a .count) (a .from) (c .before .before .before .loop .i) (c .before .before .loop-test .taken) (c .before .before .before .loop .inv) (c .if1 .left)
+    looked-more (a .key) (a .resources .now) (a .count) (a .from) (c .before .before .before .loop .i) (c .before .before .loop-test .taken)
+    (c .before .before .before .loop .inv) (c .if1 .left)
 
 returns-2 : tie.Need-returns-2 Inv-loop μ-loop
 returns-2 c =

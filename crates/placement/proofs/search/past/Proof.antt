@@ -5,9 +5,6 @@ use Rattle.placement.proofs.Passes.{beyond-later, beyond-earlier, beyon
 use Rattle.placement.proofs.search.past.Statement.{statement}
 use Rattle.placement.proofs.search.past.Tie as tie
 
-add-if1 : tie.Need-add-if1
-add-if1 c = search needs
-
 returns : tie.Need-returns
 returns c = let a = c .before .args in sym (beyond-later (a .len) (a .start) (a .finish) (a .tick) (c .if1 .taken))
 
@@ -21,4 +18,4 @@ returns-3 c =
     sym (beyond-met (a .len) (a .start) (a .finish) (a .tick) (pre .1) (pre .2) (c .before .if1 .left) (c .if2 .left))
 
 pub past-spec : {M : Type 1} → statement M
-past-spec = tie.close (tie.spec add-if1 returns returns-2 returns-3)
+past-spec = tie.close (tie.spec (λ c. search needs) returns returns-2 returns-3)

@@ -1,19 +1,21 @@
 -- `placement::search::preceding` meets its contract.
 use Prim.Native.Nat.{_+_, _<_}
-use Rattle.placement.specs.Chains.{keys, nodes}
-use Rattle.placement.proofs.Sums.{chain-place, place-fits, node-fits, key-place}
-use Rattle.placement.proofs.Chaining.{last-at, own-last, chained-last}
+use mathlib.Core.Path.{refl}
+use Rattle.rules.proofs.Sums.{below-fits, index-fits}
+use Rattle.placement.proofs.Sums.{thread-place, key-place}
+use Rattle.placement.specs.Threads.{resource-bound, nodes}
+use Rattle.placement.proofs.Threading.{last-at, own-last, threaded-last}
 use Rattle.placement.proofs.search.preceding.Statement.{statement}
 use Rattle.placement.proofs.search.preceding.Tie as tie
 
-entry-place : (c : tie.Then1) → keys + c .before .args .at < nodes
-entry-place c = chain-place _ _ (c .if1 .taken) (c .before .pre .0 .along .few)
+entry-place : (c : tie.Then1) → resource-bound + c .before .args .at < nodes
+entry-place c = thread-place _ _ (c .if1 .taken) (c .before .pre .0 .along .few)
 
 add-result : tie.Need-add-result
-add-result c = place-fits _ (entry-place c)
+add-result c = below-fits (entry-place c) refl
 
 mul-result : tie.Need-mul-result
-mul-result c = node-fits _ (entry-place c)
+mul-result c = index-fits _ (entry-place c) refl
 
 element-copy-out-result : tie.Need-element-copy-out-result
 element-copy-out-result c = entry-place c
@@ -30,7 +32,7 @@ returns-2 : tie.Need-returns-2
 returns-2 c = own-last (c .before .after-last-of .ensures) (c .if2 .taken)
 
 mul-result-2 : tie.Need-mul-result-2
-mul-result-2 c = node-fits _ (key-place _ (c .before .before .before .pre .0 .along .known))
+mul-result-2 c = index-fits _ (key-place _ (c .before .before .before .pre .0 .along .known)) refl
 
 element-copy-out-result-2 : tie.Need-element-copy-out-result-2
 element-copy-out-result-2 c = key-place _ (c .before .before .before .pre .0 .along .known)
@@ -38,7 +40,7 @@ element-copy-out-result-2 c = key-place _ (c .before .before .before .pre .0 .al
 returns-3 : tie.Need-returns-3
 returns-3 c =
     let pre = c .before .before .before .before .pre in
-    chained-last (c .before .before .after-last-of .ensures) (c .before .if2 .left) (pre .1 .last _ (pre .0 .along .known))
+    threaded-last (c .before .before .after-last-of .ensures) (c .before .if2 .left) (pre .1 .last _ (pre .0 .along .known))
 
 pub preceding-spec : {M : Type 1} → statement M
 preceding-spec =

@@ -1,52 +1,65 @@
 -- `placement::search::sweep` meets its contract: up to the entry i the tick is what a pass makes of it, and i is of the resource.
 use native.Mathlib.Omega.{arith}
-use mathlib.Core.Path.{_≡_, sym, _∙_, subst}
+use mathlib.Core.Path.{refl, _≡_, sym, _∙_, subst}
 use native.Mathlib.Numerals.{add-one}
 use Prim.Native.Nat.{ℕ, suc, _+_, _-_, _<_}
 use lib.ListN.{getD}
+use Rattle.rules.proofs.Sums.{index-below, index-fits}
+use Rattle.placement.proofs.Sums.{key-place}
 use Rattle.placement.specs.Columns.{room}
-use Rattle.placement.specs.Chains.{nodes}
-use Rattle.placement.proofs.Sums.{below-room, entry-fits, node-fits, key-place}
+use Rattle.placement.specs.Threads.{nodes}
 use Rattle.placement.proofs.Passes.{Swept, swept-none, swept-more, swept-skip, at-own}
 use Rattle.placement.proofs.search.sweep.Statement.{statement}
 use Rattle.placement.proofs.search.sweep.Tie as tie
 
 abbrev Inv-loop : tie.InvT-loop
-Inv-loop resources starts finishes nexts held count key from len tick₀ i₀ tick i = Swept resources starts finishes count key from len tick i × (i < count → getD resources i 0 ≡ key)
+Inv-loop resources starts finishes nexts held count key from len tick₀ i₀ tick i =
+    Swept resources starts finishes count key from len tick i × (i < count → getD resources i 0 ≡ key)
 
 abbrev μ-loop : tie.MeasureT-loop
 μ-loop resources starts finishes nexts held count key from len tick₀ i₀ tick i = count - i
 
+-- The stops that the proof goes back to.
+
+abbrev start : tie.In-loop Inv-loop μ-loop → tie.Start Inv-loop μ-loop
+start c = c .before .before .before .before
+
+abbrev head : tie.After-past Inv-loop μ-loop → tie.At-loop Inv-loop μ-loop
+head c = c .before .before .before .before
+
 entry-below : (c : tie.In-loop Inv-loop μ-loop) → c .before .loop .i < room
-entry-below c = below-room _ _ (c .loop-test .taken) (c .before .before .before .before .pre .0 .spans .within)
+entry-below c = index-below (c .loop-test .taken) (c .before .before .before .before .pre .0 .spans .within)
 
 key-there : (c : tie.Start Inv-loop μ-loop) → c .args .key < nodes
 key-there c = key-place _ (c .pre .1 .0 .known)
 
-mul-chained-or-own : tie.Need-mul-chained-or-own Inv-loop μ-loop
-mul-chained-or-own c = node-fits _ (key-there c)
+mul-threaded-or-own : tie.Need-mul-threaded-or-own Inv-loop μ-loop
+mul-threaded-or-own c = index-fits _ (key-there c) refl
 
-element-copy-out-chained-or-own : tie.Need-element-copy-out-chained-or-own Inv-loop μ-loop
-element-copy-out-chained-or-own c = key-there c
+element-copy-out-threaded-or-own : tie.Need-element-copy-out-threaded-or-own Inv-loop μ-loop
+element-copy-out-threaded-or-own c = key-there c
 
-chained-or-own-requires : tie.Need-chained-or-own-requires Inv-loop μ-loop
-chained-or-own-requires c κs = record { within = c .before .pre .1 .1; few = c .before .pre .0 .spans .within }
+threaded-or-own-requires : tie.Need-threaded-or-own-requires Inv-loop μ-loop
+threaded-or-own-requires c κs = record { within = c .before .pre .1 .1; few = c .before .pre .0 .spans .within }
 
 loop-holds : tie.Need-loop-holds Inv-loop μ-loop
 loop-holds c =
     let a = c .before .before .args in
     let pre = c .before .before .pre in
-    let next = c .chained-or-own .ensures 0 (pre .1 .2 .first _ (pre .1 .0 .known)) in
-    (swept-skip (a .resources .now) (a .starts .now) (a .finishes .now) (a .count) (a .key) (a .from) (a .len) (a .from) 0 (c .chained-or-own .result) (swept-none (a .resources .now) (a .starts .now) (a .finishes .now) (a .count) (a .key) (a .from) (a .len) (pre .0 .from-below)) next, next .here)
+    let next = c .threaded-or-own .ensures 0 (pre .1 .2 .first _ (pre .1 .0 .known)) in (
+      swept-skip (a .resources .now) (a .starts .now) (a .finishes .now) (a .count) (a .key) (a .from) (a .len) (a .from) 0 (c .threaded-or-own .result)
+          (swept-none (a .resources .now) (a .starts .now) (a .finishes .now) (a .count) (a .key) (a .from) (a .len) (pre .0 .from-below)) next,
+      next .here,
+    )
 
 mul-past : tie.Need-mul-past Inv-loop μ-loop
-mul-past c = entry-fits _ (entry-below (c))
+mul-past c = index-fits _ (entry-below (c)) refl
 
 element-copy-out-past : tie.Need-element-copy-out-past Inv-loop μ-loop
 element-copy-out-past c = entry-below (c)
 
 mul-past-2 : tie.Need-mul-past-2 Inv-loop μ-loop
-mul-past-2 c = entry-fits _ (entry-below (c .before))
+mul-past-2 c = index-fits _ (entry-below (c .before)) refl
 
 element-copy-out-past-2 : tie.Need-element-copy-out-past-2 Inv-loop μ-loop
 element-copy-out-past-2 c = entry-below (c .before)
@@ -54,7 +67,7 @@ element-copy-out-past-2 c = entry-below (c .before)
 past-requires : tie.Need-past-requires Inv-loop μ-loop
 past-requires c κs =
     let at = c .before .before .before in
-    let pre = c .before .before .before .before .before .before .pre .0 in
+    let pre = start (c .before .before) .pre .0 in
     let below = at .loop .inv .0 .below in
     (omega (arith, pre .len-below), pre .len-above, pre .spans .lasts (at .loop .i) (c .before .before .loop-test .taken))
 
@@ -73,22 +86,28 @@ loop-less c =
 
 loop-again : tie.Need-loop-again Inv-loop μ-loop
 loop-again c =
-    let at = c .before .before .before .before .before in
-    let a = c .before .before .before .before .before .before .before .before .args in
+    let at = head (c .before) in
+    let a = start (c .before .before .before .before) .args in
     let test = c .before .before .before .before .loop-test .taken in
     let own = at .loop .inv .1 test in
     let next = c .following .ensures in
     let moved =
-    swept-more (a .resources .now) (a .starts .now) (a .finishes .now) (a .count) (a .key) (a .from) (a .len) (at .loop .tick) (at .loop .i) (c .before .before .before .before .before .before .before .before .pre .0 .spans) test (at .loop .inv .0)
+    swept-more (a .resources .now) (a .starts .now) (a .finishes .now) (a .count) (a .key) (a .from) (a .len) (at .loop .tick) (at .loop .i)
+    (start (c .before .before .before .before) .pre .0 .spans) test (at .loop .inv .0)
     in
-    let tick = sym (c .before .past .ensures ∙ sym (at-own (a .resources .now) (a .starts .now) (a .finishes .now) (a .key) (a .len) (at .loop .tick) (at .loop .i) own)) in
-    let here : Swept (a .resources .now) (a .starts .now) (a .finishes .now) (a .count) (a .key) (a .from) (a .len) (c .before .past .result) (at .loop .i + 1) =
+    let tick = sym (c .before .past .ensures ∙ sym (at-own (a .resources .now) (a .starts .now) (a .finishes .now) (a .key) (a .len) (at .loop .tick)
+    (at .loop .i) own)) in
+    let here : Swept (a .resources .now) (a .starts .now) (a .finishes .now) (a .count) (a .key) (a .from) (a .len) (c .before .past .result)
+    (at .loop .i + 1) =
     subst
     (λ (n : ℕ). Swept (a .resources .now) (a .starts .now) (a .finishes .now) (a .count) (a .key) (a .from) (a .len) (c .before .past .result) n)
     (sym (add-one (at .loop .i)))
     (subst (λ (t : ℕ). Swept (a .resources .now) (a .starts .now) (a .finishes .now) (a .count) (a .key) (a .from) (a .len) t (suc (at .loop .i))) tick moved)
-    in
-    (swept-skip (a .resources .now) (a .starts .now) (a .finishes .now) (a .count) (a .key) (a .from) (a .len) (c .before .past .result) (at .loop .i + 1) (c .following .result) here next, next .here)
+    in (
+      swept-skip (a .resources .now) (a .starts .now) (a .finishes .now) (a .count) (a .key) (a .from) (a .len) (c .before .past .result) (at .loop .i + 1)
+          (c .following .result) here next,
+      next .here,
+    )
 
 returns : tie.Need-returns Inv-loop μ-loop
 returns c =
@@ -103,9 +122,9 @@ sweep-spec =
     (tie.spec
     Inv-loop
     μ-loop
-    mul-chained-or-own
-    element-copy-out-chained-or-own
-    chained-or-own-requires
+    mul-threaded-or-own
+    element-copy-out-threaded-or-own
+    threaded-or-own-requires
     loop-holds
     mul-past
     element-copy-out-past

@@ -4,11 +4,19 @@ use Prim.Native.Nat.{ℕ, _-_, _+_, _*_, _^_, _<_, _≤_}
 use native.Mathlib.Omega.{arith}
 use Rattle.rules.specs.Words.{most-messages}
 use Rattle.rules.specs.Bounds.{largest-cost}
-use Rattle.placement.proofs.Sums.{row-fits, count-fits, cost-fits}
+use Rattle.rules.proofs.Sums.{below-fits, next-fits, index-fits}
 use Rattle.placement.proofs.Attempts.{attempt-searchable, attempt-there, ask-own, own-figures, attempt-made}
-use Rattle.placement.proofs.Chaining.{machine-known, chained-kept}
+use Rattle.placement.proofs.Threading.{machine-known, threaded-kept}
 use Rattle.placement.proofs.trial.attempt.Statement.{statement}
 use Rattle.placement.proofs.trial.attempt.Tie as tie
+
+-- The stops that the proof goes back to.
+
+abbrev start-2 : tie.After-try-messages → tie.Start
+start-2 c = c .before .before .before .before
+
+abbrev try-messages-done : tie.After-least-free → tie.After-try-messages
+try-messages-done c = c .before .before .before .before
 
 try-messages-requires : tie.Need-try-messages-requires
 try-messages-requires c κs = let pre = c .before .before .before .pre in (pre .0 .inputs, pre .1 .0)
@@ -16,24 +24,31 @@ try-messages-requires c κs = let pre = c .before .before .before .pre in (pre .
 least-free-requires : tie.Need-least-free-requires
 least-free-requires c κs =
     let found = c .before .before .before .try-messages .ensures in
-    let pre = c .before .before .before .before .before .before .before .pre in
-    (attempt-searchable (pre .0) found (pre .1 .1), (machine-known (attempt-there (pre .0) found (pre .1 .1)), chained-kept (pre .1 .0) (found .same) (omega arith)))
+    let pre = start-2 (c .before .before .before) .pre in (
+      attempt-searchable (pre .0) found (pre .1 .1),
+      (
+        machine-known (attempt-there (pre .0) found (pre .1 .1)),
+        threaded-kept (pre .1 .0) (found .same)
+            (omega arith),
+      ),
+    )
 
 task-row-requires : tie.Need-task-row-requires
 task-row-requires c κs =
-    let pre = c .before .before .before .before .before .before .before .before .pre in
+    let pre = start-2 (c .before .before .before .before) .pre in
     ask-own (pre .0) (c .before .before .before .before .try-messages .ensures) (pre .1 .1) (c .least-free .result) (c .least-free .ensures)
 
 own-cost-fits : (n : ℕ) → n ≤ (most-messages + 1) * largest-cost → n < 2 ^ 63
 own-cost-fits n h = omega arith
 
-own-at : (c : tie.After-rows) → (c .before .before .before .before .before .before .try-messages .result .count < 33) × (c .before .before .before .before .before .before .try-messages .result .cost + c .before .task-row .result .cost < 2 ^ 63)
+own-at : (c : tie.After-rows) → (try-messages-done (c .before .before) .try-messages .result .count < most-messages + 1) ×
+    (try-messages-done (c .before .before) .try-messages .result .cost + c .before .task-row .result .cost < 2 ^ 63)
 own-at c =
-    let start = c .before .before .before .before .before .before .before .before .before .before in
+    let start = start-2 (try-messages-done (c .before .before)) in
     let figures
     = own-figures
     (start .pre .0)
-    (c .before .before .before .before .before .before .try-messages .ensures)
+    (try-messages-done (c .before .before) .try-messages .ensures)
     (start .pre .1 .1)
     (c .before .before .least-free .result)
     (c .before .before .least-free .ensures)
@@ -42,23 +57,23 @@ own-at c =
     (figures .0, own-cost-fits _ (figures .1))
 
 mul-rows : tie.Need-mul-rows
-mul-rows c = row-fits _ (own-at c .0)
+mul-rows c = index-fits _ (own-at c .0) refl
 
 array-set-from-rows : tie.Need-array-set-from-rows
 array-set-from-rows c = own-at c .0
 
 add-t26 : tie.Need-add-t26
-add-t26 c = count-fits _ (own-at c .0)
+add-t26 c = next-fits (own-at c .0) refl
 
 add-t30 : tie.Need-add-t30
-add-t30 c = cost-fits _ (own-at (c .before .before) .1)
+add-t30 c = below-fits (own-at (c .before .before) .1) refl
 
 returns : tie.Need-returns
 returns c =
-    let start = c .before .before .before .before .before .before .before .before .before .before .before .before in
+    let start = start-2 (try-messages-done (c .before .before .before .before)) in
     attempt-made
     (start .pre .0)
-    (c .before .before .before .before .before .before .before .before .try-messages .ensures)
+    (try-messages-done (c .before .before .before .before) .try-messages .ensures)
     (start .pre .1 .1)
     (c .before .before .before .before .least-free .result)
     (c .before .before .before .before .least-free .ensures)

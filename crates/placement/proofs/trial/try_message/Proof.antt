@@ -6,15 +6,9 @@ use Rattle.rules.specs.Placing.{message-booking, least-free}
 use Rattle.placement.specs.Columns.{spans-of}
 use Rattle.placement.proofs.Figures.{transfer-at-most}
 use Rattle.placement.proofs.Passes.{least-below}
-use Rattle.placement.proofs.Chaining.{link-known}
+use Rattle.placement.proofs.Threading.{link-known}
 use Rattle.placement.proofs.trial.try_message.Statement.{statement}
 use Rattle.placement.proofs.trial.try_message.Tie as tie
-
-transfer-of-requires : tie.Need-transfer-of-requires
-transfer-of-requires c κs = search needs
-
-link-key-requires : tie.Need-link-key-requires
-link-key-requires c κs = search needs
 
 least-free-requires : tie.Need-least-free-requires
 least-free-requires c κs =
@@ -22,8 +16,10 @@ least-free-requires c κs =
     let most = transfer-at-most (pre .moves) in
     let is = c .before .transfer-of .ensures in
     let takes = pre .takes-time in
-    let low = pre .done-at-most in
-    (record { spans = pre .spans; from-below = omega arith; len-above = omega arith; len-below = omega arith }, (rw (c .link-key .ensures) (link-known (pre .moves .ends)), c .before .before .pre .1))
+    let low = pre .done-at-most in (
+      record { spans = pre .spans; from-below = omega arith; len-above = omega arith; len-below = omega arith },
+      (rw (c .link-number .ensures) (link-known (pre .moves .ends)), c .before .before .pre .1),
+    )
 
 message-row-requires : tie.Need-message-row-requires
 message-row-requires c κs =
@@ -31,7 +27,8 @@ message-row-requires c κs =
     let pre = c .before .before .before .pre .0 in
     let low = pre .done-at-most in
     let below
-    = least-below _ (a .resources .now) (a .starts .now) (a .finishes .now) (a .count) (a .done) (c .before .before .transfer-of .result) (pre .spans) (omega arith) in
+    = least-below _ (a .resources .now) (a .starts .now) (a .finishes .now) (a .count) (a .done) (c .before .before .transfer-of .result) (pre .spans)
+    (omega arith) in
     record { moves = pre .moves; start-below = rw (c .least-free .ensures) below }
 
 returns : tie.Need-returns
@@ -47,9 +44,9 @@ returns c =
           ∙ ap₂
           (λ len k. least-free (a .done) len (spans-of k (a .resources .now) (a .starts .now) (a .finishes .now) (a .count)))
           (c .before .before .before .transfer-of .ensures)
-          (c .before .before .link-key .ensures));
+          (c .before .before .link-number .ensures));
     }
 
 pub try-message-spec : {M : Type 1} → statement M
 try-message-spec =
-    tie.close (tie.spec transfer-of-requires link-key-requires least-free-requires message-row-requires returns)
+    tie.close (tie.spec (λ c κs. search needs) (λ c κs. search needs) least-free-requires message-row-requires returns)

@@ -6,24 +6,6 @@ use Rattle.reservation.specs.Kinds.{kind-of}
 use Rattle.reservation.proofs.Register.apply.Statement.{statement}
 use Rattle.reservation.proofs.Register.apply.Tie as tie
 
-enum-told : tie.Need-enum-told
-enum-told c = search needs
-
-submit-requires : tie.Need-submit-requires
-submit-requires c κs = search needs
-
-enum-known-kind : tie.Need-enum-known-kind
-enum-known-kind c = search needs
-
-withdraw-requires : tie.Need-withdraw-requires
-withdraw-requires c κs = search needs
-
-enum-known-kind-2 : tie.Need-enum-known-kind-2
-enum-known-kind-2 c = search needs
-
-move-clock-requires : tie.Need-move-clock-requires
-move-clock-requires c κs = search needs
-
 returns : tie.Need-returns
 returns c =
     let a = c .before .before .before .before .args in
@@ -37,9 +19,10 @@ returns-2 c =
 returns-3 : tie.Need-returns-3
 returns-3 c =
     let a = c .before .before .before .before .args in
-    subst (λ k. Steps (a .self) (kind-of k (a .call .job)) (c .move-clock .result)) (sym (c .before .before .kind2 .given .1)) (c .move-clock .ensures)
+    subst (λ k. Steps (a .self) (kind-of k (a .call .job)) (c .advance .result)) (sym (c .before .before .kind2 .given .1)) (c .advance .ensures)
 
 pub apply-spec : {M : Type 1} → statement M
 apply-spec =
     tie.close
-    (tie.spec enum-told submit-requires enum-known-kind withdraw-requires enum-known-kind-2 move-clock-requires returns returns-2 returns-3)
+    (tie.spec (λ c. search needs) (λ c κs. search needs) (λ c. search needs) (λ c κs. search needs) (λ c. search needs) (λ c κs. search needs) returns returns-2
+    returns-3)

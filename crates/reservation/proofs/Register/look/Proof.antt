@@ -14,11 +14,16 @@ Inv-loop machine tick self count i₀ i = NoneYet (running machine tick) (self .
 abbrev μ-loop : tie.MeasureT-loop
 μ-loop machine tick self count i₀ i = count - i
 
+-- The stops that the proof goes back to.
+
+abbrev start : tie.After-struct-known Inv-loop μ-loop → tie.Start Inv-loop μ-loop
+start c = c .before .before .before .before
+
 returns : tie.Need-returns Inv-loop μ-loop
 returns c = let a = c .before .before .before .args in sees-no-machine (a .t1) (a .machine) (a .tick) (λ is. omega arith)
 
 returns-2 : tie.Need-returns-2 Inv-loop μ-loop
-returns-2 c = let a = c .before .before .before .before .before .args in sees-no-machine (a .t1) (a .machine) (a .tick) (λ is. omega arith)
+returns-2 c = let a = start (c .before) .args in sees-no-machine (a .t1) (a .machine) (a .tick) (λ is. omega arith)
 
 loop-holds : tie.Need-loop-holds Inv-loop μ-loop
 loop-holds c = none-at-first (omega arith)
@@ -29,13 +34,10 @@ mul-row c = omega arith
 element-copy-out-row : tie.Need-element-copy-out-row Inv-loop μ-loop
 element-copy-out-row c = omega arith
 
-runs-at-requires : tie.Need-runs-at-requires Inv-loop μ-loop
-runs-at-requires c κs = tt
-
 returns-3 : tie.Need-returns-3 Inv-loop μ-loop
 returns-3 c =
     let at = c .before .before .before .before in
-    let a = at .before .before .before .before .before .before .args in
+    let a = start (at .before .before) .args in
     sees-row
     (a .t1)
     (a .machine)
@@ -62,7 +64,7 @@ loop-again c =
 returns-4 : tie.Need-returns-4 Inv-loop μ-loop
 returns-4 c =
     let at = c .before in
-    let a = at .before .before .before .before .before .before .args in
+    let a = start (at .before .before) .args in
     sees-idle (a .t1) (a .machine) (a .tick) (at .before .before .before .if1 .left) (at .before .if2 .left) (at .loop .inv) (c .loop-test .left)
 
 pub look-spec : {M : Type 1} → statement M
@@ -76,7 +78,7 @@ look-spec =
     loop-holds
     mul-row
     element-copy-out-row
-    runs-at-requires
+    (λ c κs. tt)
     returns-3
     add-i
     loop-less

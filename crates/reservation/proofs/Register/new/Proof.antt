@@ -13,12 +13,6 @@ use Rattle.reservation.proofs.Values.{register-valid}
 use Rattle.reservation.proofs.Register.new.Statement.{statement}
 use Rattle.reservation.proofs.Register.new.Tie as tie
 
-blank-requires : tie.Need-blank-requires
-blank-requires c κs = search needs
-
-default-setup-requires : tie.Need-default-setup-requires
-default-setup-requires c κs = search needs
-
 returns : tie.Need-returns
 returns c =
     let is : made (c .default-setup .result) (c .before .blank .result) ≡ register-of default-setup fresh
@@ -29,4 +23,4 @@ returns c =
     made s b = record { setup = s; clock = 0; count = 0; rows = replicate row-limit b; total = 0 }
 
 pub new-spec : {M : Type 1} → statement M
-new-spec = tie.close (tie.spec blank-requires default-setup-requires returns)
+new-spec = tie.close (tie.spec (λ c κs. search needs) (λ c κs. search needs) returns)

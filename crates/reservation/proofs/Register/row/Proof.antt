@@ -7,22 +7,11 @@ use Rattle.rules.specs.Placing.{no-row}
 use Rattle.reservation.proofs.Register.row.Statement.{statement}
 use Rattle.reservation.proofs.Register.row.Tie as tie
 
-blank-requires : tie.Need-blank-requires
-blank-requires c κs = search needs
-
 returns : tie.Need-returns
 returns c =
     let a = c .before .before .args in
-    c .blank .ensures ∙ sym (List·getD-eq-default (a .t1 .rows) no-row (let long = c .before .before .pre .long in let past = c .before .if1 .taken in omega arith))
-
-mul-result : tie.Need-mul-result
-mul-result c = search needs
-
-element-copy-out-result : tie.Need-element-copy-out-result
-element-copy-out-result c = search needs
-
-returns-2 : tie.Need-returns-2
-returns-2 c = search needs
+    c .blank .ensures ∙ sym (List·getD-eq-default (a .t1 .rows) no-row
+    (let long = c .before .before .pre .long in let past = c .before .if1 .taken in omega arith))
 
 pub row-spec : {M : Type 1} → statement M
-row-spec = tie.close (tie.spec blank-requires returns mul-result element-copy-out-result returns-2)
+row-spec = tie.close (tie.spec (λ c κs. search needs) returns (λ c. search needs) (λ c. search needs) (λ c. search needs))

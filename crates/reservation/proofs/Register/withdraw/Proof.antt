@@ -5,14 +5,11 @@ use Rattle.reservation.proofs.Register.withdraw.Tie as tie
 withdrawal-requires : tie.Need-withdrawal-requires
 withdrawal-requires c κs = c .pre
 
-numbered-requires : tie.Need-numbered-requires
-numbered-requires c κs = tt
-
 without-requires : tie.Need-without-requires
 without-requires c κs = c .before .before .before .pre
 
 returns : tie.Need-returns
-returns c = rw (c .before .numbered .ensures) (c .before .before .before .withdrawal .ensures _ (c .without .ensures))
+returns c = rw (c .before .refusal .ensures) (c .before .before .before .withdrawal .ensures _ (c .without .ensures))
 
 pub withdraw-spec : {M : Type 1} → statement M
-withdraw-spec = tie.close (tie.spec withdrawal-requires numbered-requires without-requires returns)
+withdraw-spec = tie.close (tie.spec withdrawal-requires (λ c κs. tt) without-requires returns)

@@ -3,8 +3,9 @@ use Prim.Native.Nat.{_-_, _<_}
 use native.Mathlib.Numerals.{add-one}
 use lib.Dec.{ltb}
 use borrow.Author.Tests.{lt-ltb, le-ltb}
-use Rattle.placement.proofs.Sums.{less-next, held-below, held-turn-fits}
-use Rattle.reservation.proofs.Sums.{slot-word-fits}
+use mathlib.Core.Path.{refl}
+use Rattle.rules.specs.Words.{row-limit}
+use Rattle.rules.proofs.Sums.{less-next, index-below, next-fits, index-fits}
 use Rattle.reservation.proofs.Scans.{NoneFound, found-none, found-other, found-fails, found-one, found-all, found-ended}
 use Rattle.reservation.proofs.removal.job_ended.Statement.{statement}
 use Rattle.reservation.proofs.removal.job_ended.Tie as tie
@@ -18,23 +19,23 @@ abbrev μ-loop : tie.MeasureT-loop
 loop-holds : tie.Need-loop-holds Inv-loop μ-loop
 loop-holds c = found-none _ _ _ _ _ _
 
-row-below : (c : tie.In-loop Inv-loop μ-loop) → c .before .loop .i < 256
-row-below c = held-below _ _ (c .loop-test .taken) (c .before .before .pre)
+row-below : (c : tie.In-loop Inv-loop μ-loop) → c .before .loop .i < row-limit
+row-below c = index-below (c .loop-test .taken) (c .before .before .pre)
 
 mul-carried : tie.Need-mul-carried Inv-loop μ-loop
-mul-carried c = slot-word-fits _ (row-below c)
+mul-carried c = index-fits _ (row-below c) refl
 
 element-copy-out-carried : tie.Need-element-copy-out-carried Inv-loop μ-loop
 element-copy-out-carried c = row-below c
 
 mul-finish : tie.Need-mul-finish Inv-loop μ-loop
-mul-finish c = slot-word-fits _ (row-below (c .before))
+mul-finish c = index-fits _ (row-below (c .before)) refl
 
 element-copy-out-finish : tie.Need-element-copy-out-finish Inv-loop μ-loop
 element-copy-out-finish c = row-below (c .before)
 
 add-i : tie.Need-add-i Inv-loop μ-loop
-add-i c = held-turn-fits _ (row-below (c .before .before))
+add-i c = next-fits (row-below (c .before .before)) refl
 
 loop-less : tie.Need-loop-less Inv-loop μ-loop
 loop-less c = less-next _ _ (c .before .before .before .loop-test .taken)
@@ -55,10 +56,12 @@ loop-less-2 c = less-next _ _ (c .before .before .before .before .loop-test .tak
 loop-again-2 : tie.Need-loop-again-2 Inv-loop μ-loop
 loop-again-2 c =
     let turn = c .before .before .before .before in
-    rw (add-one (turn .before .loop .i)) (found-fails (turn .before .loop .inv) (turn .before .before .pre) (turn .loop-test .taken) (le-ltb _ _ (c .if2 .left)))
+    rw (add-one (turn .before .loop .i)) (found-fails (turn .before .loop .inv) (turn .before .before .pre) (turn .loop-test .taken)
+    (le-ltb _ _ (c .if2 .left)))
 
 returns-2 : tie.Need-returns-2 Inv-loop μ-loop
 returns-2 c = found-ended _ _ _ _ _ (found-all (c .before .loop .inv) (c .loop-test .left))
 
 pub job-ended-spec : {M : Type 1} → statement M
-job-ended-spec = tie.close (tie.spec Inv-loop μ-loop loop-holds mul-carried element-copy-out-carried mul-finish element-copy-out-finish add-i loop-less loop-again returns loop-less-2 loop-again-2 returns-2)
+job-ended-spec = tie.close (tie.spec Inv-loop μ-loop loop-holds mul-carried element-copy-out-carried mul-finish element-copy-out-finish add-i loop-less
+    loop-again returns loop-less-2 loop-again-2 returns-2)

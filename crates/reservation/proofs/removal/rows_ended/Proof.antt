@@ -1,12 +1,13 @@
--- `reservation::removal::rows_ended` meets its contract: the first i entries say whether the row's job has ended, and the answer for the job asked last is at hand.
+-- `reservation::removal::rows_ended` meets its contract: the first i entries say whether the row's job has ended, and the answer for the job asked last is at
+-- hand.
 use mathlib.Core.Path.{refl, sym, _∙_}
 use mathlib.Core.Logic.{⊎-elim}
 use Prim.Native.Nat.{_-_, _<_}
 use native.Mathlib.Omega.{arith}
 use native.Mathlib.Numerals.{add-one}
-use Rattle.placement.proofs.Sums.{less-next, held-below, held-turn-fits}
-use Rattle.reservation.proofs.Sums.{slot-word-fits}
 use borrow.Author.Tests.{lt-ltb}
+use Rattle.rules.specs.Words.{row-limit}
+use Rattle.rules.proofs.Sums.{less-next, index-below, next-fits, index-fits}
 use Rattle.reservation.proofs.Scans.{found-one, found-ended}
 use Rattle.reservation.proofs.Removed.{Ending, ending-none, ending-more, ending-all}
 use Rattle.reservation.proofs.removal.rows_ended.Statement.{statement}
@@ -27,17 +28,17 @@ job-ended-requires c κs = c .before .pre
 loop-holds : tie.Need-loop-holds Inv-loop μ-loop
 loop-holds c = ending-none _ refl (c .job-ended .ensures)
 
-row-below : (c : tie.In-loop Inv-loop μ-loop) → c .before .loop .i < 256
-row-below c = held-below _ _ (c .loop-test .taken) (c .before .before .before .before .pre)
+row-below : (c : tie.In-loop Inv-loop μ-loop) → c .before .loop .i < row-limit
+row-below c = index-below (c .loop-test .taken) (c .before .before .before .before .pre)
 
 mul-job : tie.Need-mul-job Inv-loop μ-loop
-mul-job c = slot-word-fits _ (row-below c)
+mul-job c = index-fits _ (row-below c) refl
 
 element-copy-out-job : tie.Need-element-copy-out-job Inv-loop μ-loop
 element-copy-out-job c = row-below c
 
 mul-own : tie.Need-mul-own Inv-loop μ-loop
-mul-own c = slot-word-fits _ (row-below (c .before))
+mul-own c = index-fits _ (row-below (c .before)) refl
 
 element-copy-out-own : tie.Need-element-copy-out-own Inv-loop μ-loop
 element-copy-out-own c = row-below (c .before)
@@ -52,7 +53,7 @@ array-write-leaves : tie.Need-array-write-leaves Inv-loop μ-loop
 array-write-leaves c = row-below (c .before .before .before)
 
 add-i : tie.Need-add-i Inv-loop μ-loop
-add-i c = held-turn-fits _ (row-below (c .before .before .before))
+add-i c = next-fits (row-below (c .before .before .before)) refl
 
 loop-less : tie.Need-loop-less Inv-loop μ-loop
 loop-less c = less-next _ _ (c .before .before .before .loop-test .taken)
@@ -79,4 +80,5 @@ returns : tie.Need-returns Inv-loop μ-loop
 returns c = ending-all (c .before .loop .inv) (c .loop-test .left)
 
 pub rows-ended-spec : {M : Type 1} → statement M
-rows-ended-spec = tie.close (tie.spec Inv-loop μ-loop element-copy-out-asked job-ended-requires loop-holds mul-job element-copy-out-job mul-own element-copy-out-own job-ended-requires-2 array-write-leaves add-i loop-less loop-again returns)
+rows-ended-spec = tie.close (tie.spec Inv-loop μ-loop element-copy-out-asked job-ended-requires loop-holds mul-job element-copy-out-job mul-own
+    element-copy-out-own job-ended-requires-2 array-write-leaves add-i loop-less loop-again returns)

@@ -1,8 +1,9 @@
 -- `reservation::removal::without` meets its contract: after i rows those that stay stand at the front, and the total is theirs and that of the rows left.
 use Prim.Native.Nat.{_-_, _<_}
 use native.Mathlib.Numerals.{add-one}
-use Rattle.placement.proofs.Sums.{less-next, held-below, held-fits, held-turn-fits}
-use Rattle.reservation.proofs.Sums.{slot-kept}
+use mathlib.Core.Path.{refl}
+use Rattle.rules.specs.Words.{row-limit}
+use Rattle.rules.proofs.Sums.{less-next, index-below, kept-below, next-fits, index-fits}
 use Rattle.reservation.proofs.Removed.{Removing, removing-none, cost-there, removing-gone, removing-stays, removing-all}
 use Rattle.reservation.proofs.removal.without.Statement.{statement}
 use Rattle.reservation.proofs.removal.without.Tie as tie
@@ -14,20 +15,17 @@ Inv-loop clock register leaves rows₀ kept₀ total₀ count i₀ rows kept tot
 abbrev μ-loop : tie.MeasureT-loop
 μ-loop clock register leaves rows₀ kept₀ total₀ count i₀ rows kept total i = register .count - i
 
-blank-requires : tie.Need-blank-requires Inv-loop μ-loop
-blank-requires c κs = tt
-
 loop-holds : tie.Need-loop-holds Inv-loop μ-loop
 loop-holds c = rw (c .blank .ensures) (removing-none (c .before .pre))
 
-row-below : (c : tie.In-loop Inv-loop μ-loop) → c .before .loop .i < 256
-row-below c = held-below _ _ (c .loop-test .taken) (c .before .before .before .pre .count-at-most)
+row-below : (c : tie.In-loop Inv-loop μ-loop) → c .before .loop .i < row-limit
+row-below c = index-below (c .loop-test .taken) (c .before .before .before .pre .count-at-most)
 
-kept-below : (c : tie.In-loop Inv-loop μ-loop) → c .before .loop .kept < 256
-kept-below c = slot-kept _ _ _ (c .before .loop .inv .kept-at-most) (c .loop-test .taken) (c .before .before .before .pre .count-at-most)
+slot-kept : (c : tie.In-loop Inv-loop μ-loop) → c .before .loop .kept < row-limit
+slot-kept c = kept-below (c .before .loop .inv .kept-at-most) (c .loop-test .taken) (c .before .before .before .pre .count-at-most)
 
 mul-row : tie.Need-mul-row Inv-loop μ-loop
-mul-row c = held-fits _ (row-below c)
+mul-row c = index-fits _ (row-below c) refl
 
 element-copy-out-row : tie.Need-element-copy-out-row Inv-loop μ-loop
 element-copy-out-row c = row-below c
@@ -36,7 +34,7 @@ array-read-gone : tie.Need-array-read-gone Inv-loop μ-loop
 array-read-gone c = row-below (c .before)
 
 add-i : tie.Need-add-i Inv-loop μ-loop
-add-i c = held-turn-fits _ (row-below (c .before))
+add-i c = next-fits (row-below (c .before)) refl
 
 sub-total : tie.Need-sub-total Inv-loop μ-loop
 sub-total c =
@@ -52,13 +50,13 @@ loop-again c =
     rw (add-one (at .loop .i)) (removing-gone (at .before .before .pre) (at .loop .inv) (c .before .before .before .loop-test .taken) (c .before .if1 .taken))
 
 mul-rows : tie.Need-mul-rows Inv-loop μ-loop
-mul-rows c = held-fits _ (kept-below (c .before .before))
+mul-rows c = index-fits _ (slot-kept (c .before .before)) refl
 
 array-set-from-rows : tie.Need-array-set-from-rows Inv-loop μ-loop
-array-set-from-rows c = kept-below (c .before .before)
+array-set-from-rows c = slot-kept (c .before .before)
 
 add-kept : tie.Need-add-kept Inv-loop μ-loop
-add-kept c = held-turn-fits _ (kept-below (c .before .before))
+add-kept c = next-fits (slot-kept (c .before .before)) refl
 
 loop-less-2 : tie.Need-loop-less-2 Inv-loop μ-loop
 loop-less-2 c = less-next _ _ (c .before .before .loop-test .taken)
@@ -66,10 +64,12 @@ loop-less-2 c = less-next _ _ (c .before .before .loop-test .taken)
 loop-again-2 : tie.Need-loop-again-2 Inv-loop μ-loop
 loop-again-2 c =
     let at = c .before .before .before in
-    rw (add-one (at .loop .i), add-one (at .loop .kept)) (removing-stays (at .before .before .pre) (at .loop .inv) (c .before .before .loop-test .taken) (c .if1 .left))
+    rw (add-one (at .loop .i), add-one (at .loop .kept)) (removing-stays (at .before .before .pre) (at .loop .inv) (c .before .before .loop-test .taken)
+    (c .if1 .left))
 
 returns : tie.Need-returns Inv-loop μ-loop
 returns c = removing-all (c .before .before .before .before .pre) (c .before .before .loop .inv) (c .before .loop-test .left) _
 
 pub without-spec : {M : Type 1} → statement M
-without-spec = tie.close (tie.spec Inv-loop μ-loop blank-requires loop-holds mul-row element-copy-out-row array-read-gone add-i sub-total loop-less loop-again mul-rows array-set-from-rows add-kept loop-less-2 loop-again-2 returns)
+without-spec = tie.close (tie.spec Inv-loop μ-loop (λ c κs. tt) loop-holds mul-row element-copy-out-row array-read-gone add-i sub-total loop-less loop-again
+    mul-rows array-set-from-rows add-kept loop-less-2 loop-again-2 returns)

@@ -3,9 +3,9 @@ use mathlib.Core.Path.{refl}
 use Prim.Native.Nat.{_-_, _+_, _<_}
 use native.Mathlib.Omega.{arith}
 use native.Mathlib.Numerals.{add-one}
+use Rattle.placement.specs.Placements.{most-own}
 use Rattle.rules.specs.Words.{row-limit}
-use Rattle.placement.proofs.Sums.{less-next, held-fits, own-row-fits, behind-below}
-use Rattle.reservation.proofs.Sums.{own-below, own-turn-fits, behind-fits, rows-fit}
+use Rattle.rules.proofs.Sums.{less-next, index-below, behind-below, below-fits, at-most-fits, next-fits, index-fits}
 use Rattle.reservation.proofs.Admission.{Filling, filling-none, filling-more, total-fits, filled}
 use Rattle.reservation.proofs.submission.admitted.Statement.{statement}
 use Rattle.reservation.proofs.submission.admitted.Tie as tie
@@ -16,32 +16,37 @@ Inv-loop register found rows₀ first more i₀ rows i = Filling register found 
 abbrev μ-loop : tie.MeasureT-loop
 μ-loop register found rows₀ first more i₀ rows i = more - i
 
+-- The stops that the proof goes back to.
+
+abbrev start : tie.After-setup Inv-loop μ-loop → tie.Start Inv-loop μ-loop
+start c = c .before .before .before .before
+
 loop-holds : tie.Need-loop-holds Inv-loop μ-loop
 loop-holds c = filling-none (c .before .pre)
 
-row-below : (c : tie.In-loop Inv-loop μ-loop) → c .before .loop .i < 48
-row-below c = own-below _ _ (c .loop-test .taken) (c .before .before .before .pre .found-at-most)
+row-below : (c : tie.In-loop Inv-loop μ-loop) → c .before .loop .i < most-own
+row-below c = index-below (c .loop-test .taken) (c .before .before .before .pre .found-at-most)
 
-slot-at : (c : tie.In-loop Inv-loop μ-loop) → c .before .before .before .args .register .count + c .before .loop .i < 256
+slot-at : (c : tie.In-loop Inv-loop μ-loop) → c .before .before .before .args .register .count + c .before .loop .i < row-limit
 slot-at c = behind-below _ _ _ row-limit (c .loop-test .taken) (c .before .before .before .pre .fits)
 
 mul-row : tie.Need-mul-row Inv-loop μ-loop
-mul-row c = own-row-fits _ (row-below c)
+mul-row c = index-fits _ (row-below c) refl
 
 element-copy-out-row : tie.Need-element-copy-out-row Inv-loop μ-loop
 element-copy-out-row c = row-below c
 
 add-rows : tie.Need-add-rows Inv-loop μ-loop
-add-rows c = behind-fits _ (slot-at (c .before))
+add-rows c = below-fits (slot-at (c .before)) refl
 
 mul-rows : tie.Need-mul-rows Inv-loop μ-loop
-mul-rows c = held-fits _ (slot-at (c .before))
+mul-rows c = index-fits _ (slot-at (c .before)) refl
 
 array-set-from-rows : tie.Need-array-set-from-rows Inv-loop μ-loop
 array-set-from-rows c = slot-at (c .before)
 
 add-i : tie.Need-add-i Inv-loop μ-loop
-add-i c = own-turn-fits _ (row-below (c .before))
+add-i c = next-fits (row-below (c .before)) refl
 
 loop-less : tie.Need-loop-less Inv-loop μ-loop
 loop-less c = less-next _ _ (c .before .loop-test .taken)
@@ -52,13 +57,14 @@ loop-again c =
     rw (add-one (at .loop .i)) (filling-more (at .before .before .pre) (at .loop .inv) (c .before .loop-test .taken) _ refl)
 
 add-t18 : tie.Need-add-t18 Inv-loop μ-loop
-add-t18 c = rows-fit _ (c .before .before .before .before .pre .fits)
+add-t18 c = at-most-fits (c .before .before .before .before .pre .fits) refl
 
 add-t21 : tie.Need-add-t21 Inv-loop μ-loop
-add-t21 c = let fit = total-fits (c .before .before .before .before .before .pre) in omega arith
+add-t21 c = let fit = total-fits (start (c .before) .pre) in omega arith
 
 returns : tie.Need-returns Inv-loop μ-loop
-returns c = filled (c .before .before .before .before .before .pre) (c .before .before .before .loop .inv) (c .before .before .loop-test .left)
+returns c = filled (start (c .before) .pre) (c .before .before .before .loop .inv) (c .before .before .loop-test .left)
 
 pub admitted-spec : {M : Type 1} → statement M
-admitted-spec = tie.close (tie.spec Inv-loop μ-loop loop-holds mul-row element-copy-out-row add-rows mul-rows array-set-from-rows add-i loop-less loop-again add-t18 add-t21 returns)
+admitted-spec = tie.close (tie.spec Inv-loop μ-loop loop-holds mul-row element-copy-out-row add-rows mul-rows array-set-from-rows add-i loop-less loop-again
+    add-t18 add-t21 returns)

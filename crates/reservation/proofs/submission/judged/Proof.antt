@@ -1,5 +1,7 @@
 -- `reservation::submission::judged` meets its contract: the first test that refuses answers, and else what placing found is settled.
 use mathlib.Core.Path.{_≡_, refl, sym, _∙_}
+use Prim.Native.Nat.{_+_}
+use Rattle.rules.proofs.Sums.{at-most-fits}
 use mathlib.Core.Bool.{false}
 use Rattle.rules.specs.Words.{view}
 use Rattle.placement.specs.Placements.{AskPlace, PlacementIs}
@@ -9,16 +11,21 @@ use Rattle.reservation.proofs.Stepped.{judges-refused, submit-early, su
 use Rattle.reservation.proofs.submission.judged.Statement.{statement}
 use Rattle.reservation.proofs.submission.judged.Tie as tie
 
+-- The stops that the proof goes back to.
+
+abbrev tested-1 : tie.After-starts → tie.Else1
+tested-1 c = c .before .before .before .before
+
+abbrev tested-3 : tie.After-starts2 → tie.Else3
+tested-3 c = c .before .before .before .before
+
 early-requires : tie.Need-early-requires
 early-requires c κs = c .before .pre .sound .room
-
-refused-requires : tie.Need-refused-requires
-refused-requires c κs = tt
 
 returns : tie.Need-returns
 returns c =
     let valid = c .before .before .before .before .pre in
-    judges-refused valid (submit-early valid (c .before .before .early .ensures) (c .before .if1 .taken)) _ (c .refused .ensures)
+    judges-refused valid (submit-early valid (c .before .before .early .ensures) (c .before .if1 .taken)) _ (c .refused-verdict .ensures)
 
 -- Refusals 1 to 4 are passed here; what follows looks back to this place.
 
@@ -26,34 +33,35 @@ abbrev start : tie.Else1 → tie.Start
 start c = c .before .before .before
 
 -- what placing asks
-ask-at : (c : tie.Else1) → let r = start c .args .register in AskPlace (r .setup) (r .clock) (r .rows) (r .count) (start c .args .job)
+ask-at : (c : tie.Else1) → let r =
+    start c .args .register in AskPlace (r .setup) (r .clock + start c .args .job .scheduling) (r .rows) (r .count) (start c .args .job)
 ask-at c = ask-place (start c .pre) (c .before .early .ensures) (c .if1 .left)
 
 fill-requires : tie.Need-fill-requires
 fill-requires c κs =
-    let at = c .before .before .before .before .before in
+    let at = tested-1 (c .before) in
     let r = start at .args .register in
-    ask-fill (r .setup) (r .clock) (r .rows) (r .count) (start at .args .job) (ask-at at) (start at .pre .long) refl (record { resources-long = refl; starts-long = refl; finishes-long = refl })
+    ask-fill (r .setup) (r .clock + start at .args .job .scheduling) (r .rows) (r .count) (start at .args .job) (ask-at at) (start at .pre .long) refl
+    (record { resources-long = refl; starts-long = refl; finishes-long = refl })
 
 abbrev passed : tie.After-fill → tie.Else1
-passed c = c .before .before .before .before .before .before
+passed c = tested-1 (c .before .before)
 
 is-held-requires : tie.Need-is-held-requires
 is-held-requires c κs = start (passed (c .before)) .pre .count-at-most
 
 -- the test is the rules'
-held-at : (c : tie.After-is-held) → let at = start (passed (c .before .before)) in c .is-held .result ≡ view (state-of (at .args .register)) .held (at .args .job .number)
+held-at : (c : tie.After-is-held) → let at =
+    start (passed (c .before .before)) in c .is-held .result ≡ view (state-of (at .args .register)) .held (at .args .job .number)
 held-at c = c .is-held .ensures _ (c .before .before .fill .ensures .0) (start (passed (c .before .before)) .pre .long)
-
-refused-requires-2 : tie.Need-refused-requires-2
-refused-requires-2 c κs = tt
 
 returns-2 : tie.Need-returns-2
 returns-2 c =
     let tested = c .before .before in
     let at = passed (tested .before .before) in
     let valid = start at .pre in
-    judges-refused valid (submit-5 valid (at .before .early .ensures) (at .if1 .left) (sym (held-at tested) ∙ c .before .if2 .taken)) _ (c .refused2 .ensures)
+    judges-refused valid (submit-5 valid (at .before .early .ensures) (at .if1 .left) (sym (held-at tested) ∙ c .before .if2 .taken)) _
+    (c .refused-verdict2 .ensures)
 
 -- Refusal 5 is passed here.
 
@@ -70,9 +78,6 @@ first-infeasible-requires c κs =
     let range = at .before .early .ensures .in-range (at .if1 .left) in
     record { figures = record { room = valid .sound .room; counts = range .counts }; in-range = range .figures; clock-at-most = valid .bounded .clock }
 
-refused-requires-3 : tie.Need-refused-requires-3
-refused-requires-3 c κs = tt
-
 returns-3 : tie.Need-returns-3
 returns-3 c =
     let tested = c .before .before in
@@ -82,15 +87,20 @@ returns-3 c =
     valid
     (submit-6 valid (at .before .early .ensures) (at .if1 .left) (free-at (tested .before)) _ (tested .first-infeasible .ensures) (c .before .if3 .taken))
     _
-    (c .refused3 .ensures)
+    (c .refused-verdict3 .ensures)
 
 -- Refusal 6 is passed, and the rows are placed.
 
 abbrev feasible : tie.After-finishes2 → tie.Else3
-feasible c = c .before .before .before
+feasible c = tested-3 (c .before)
 
 abbrev free : tie.After-finishes2 → tie.Else2
 free c = feasible c .before .before
+
+add-base : tie.Need-add-base
+add-base c =
+    let at = passed (filled (c .before .before .before .before)) in
+    at-most-fits (ask-at at .base-at-most) refl
 
 place-requires : tie.Need-place-requires
 place-requires c κs =
@@ -99,7 +109,8 @@ place-requires c κs =
     record { held = start at .args .register .rows; ask = ask-at at; widths = columns .fill .ensures .1 .0; mirrors = columns .fill .ensures .1 .1 }
 
 -- what placing found is what the rules place
-found-at : (c : tie.After-place) → let at = start (passed (filled (free (c .before)))) in let r = at .args .register in PlacementIs (r .setup) (r .clock) (r .rows) (r .count) (at .args .job) (c .place .result)
+found-at : (c : tie.After-place) → let at = start (passed (filled (free (c .before)))) in let r = at .args .register in
+    PlacementIs (r .setup) (r .clock + at .args .job .scheduling) (r .rows) (r .count) (at .args .job) (c .place .result)
 found-at c = let columns = filled (free (c .before)) in c .place .ensures _ (ask-at (passed columns)) (columns .fill .ensures .1 .1)
 
 settled-requires : tie.Need-settled-requires
@@ -122,4 +133,5 @@ returns-4 c =
     (c .settled .ensures)
 
 pub judged-spec : {M : Type 1} → statement M
-judged-spec = tie.close (tie.spec early-requires refused-requires returns fill-requires is-held-requires refused-requires-2 returns-2 first-infeasible-requires refused-requires-3 returns-3 place-requires settled-requires returns-4)
+judged-spec = tie.close (tie.spec early-requires (λ c κs. tt) returns fill-requires is-held-requires (λ c κs. tt) returns-2 first-infeasible-requires
+    (λ c κs. tt) returns-3 add-base place-requires settled-requires returns-4)

@@ -10,6 +10,11 @@ use Rattle.reservation.proofs.Stepped.{refused-9, refused-10, withdrawn
 use Rattle.reservation.proofs.withdrawal.withdrawal.Statement.{statement}
 use Rattle.reservation.proofs.withdrawal.withdrawal.Tie as tie
 
+-- The stops that the proof goes back to.
+
+abbrev is-held-done : tie.After-has-begun-arg2 → tie.After-is-held
+is-held-done c = c .before .before .before .before
+
 abbrev gathered : tie.After-is-held → tie.After-figures-of
 gathered c = c .before .before .before
 
@@ -17,7 +22,7 @@ abbrev start : tie.After-is-held → tie.Start
 start c = gathered c .before .before
 
 abbrev first-test : tie.After-has-begun → tie.After-is-held
-first-test c = c .before .before .before .before .before
+first-test c = is-held-done (c .before)
 
 -- What the tests say of the rows, whose columns they read.
 
@@ -41,25 +46,19 @@ figures-of-requires c κs = c .before .pre .count-at-most
 is-held-requires : tie.Need-is-held-requires
 is-held-requires c κs = c .before .before .before .before .pre .count-at-most
 
-refused-requires : tie.Need-refused-requires
-refused-requires c κs = tt
-
 returns : tie.Need-returns
 returns c =
     let asked = c .before .before in
-    rw (c .refused .ensures) (refused-9 (start asked .pre) _ (sym (held asked) ∙ not-true _ (c .before .if1 .taken)))
+    rw (c .no-removal .ensures) (refused-9 (start asked .pre) _ (sym (held asked) ∙ not-true _ (c .before .if1 .taken)))
 
 has-begun-requires : tie.Need-has-begun-requires
 has-begun-requires c κs = start (c .before .before .before .before) .pre .count-at-most
-
-refused-requires-2 : tie.Need-refused-requires-2
-refused-requires-2 c κs = tt
 
 returns-2 : tie.Need-returns-2
 returns-2 c =
     let tested = c .before .before in
     rw
-    (c .refused2 .ensures)
+    (c .no-removal2 .ensures)
     (refused-10 (start (first-test tested) .pre) _ (held-true (tested .before .before .before .before)) (sym (begun tested) ∙ c .before .if2 .taken))
 
 rows-of-requires : tie.Need-rows-of-requires
@@ -77,4 +76,5 @@ returns-3 c =
     (c .rows-of .ensures _ (gathered asked .figures-of .ensures .0) (start asked .pre .long))
 
 pub withdrawal-spec : {M : Type 1} → statement M
-withdrawal-spec = tie.close (tie.spec figures-of-requires is-held-requires refused-requires returns has-begun-requires refused-requires-2 returns-2 rows-of-requires returns-3)
+withdrawal-spec =
+    tie.close (tie.spec figures-of-requires is-held-requires (λ c κs. tt) returns has-begun-requires (λ c κs. tt) returns-2 rows-of-requires returns-3)

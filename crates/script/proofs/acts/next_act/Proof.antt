@@ -5,8 +5,9 @@ use mathlib.Core.List.{List}
 use Prim.Native.Nat.{ℕ, _-_}
 use lib.ListN.{length, take, drop}
 use borrow.Author.Needs.{needs}
-use Rattle.jobtext.specs.Lines.{begins}
-use Rattle.jobtext.proofs.Lined.{part}
+use Rattle.lines.specs.Lines.{begins}
+use Rattle.texts.specs.Reader.{default-machines}
+use Rattle.lines.proofs.Lined.{part}
 use Rattle.script.specs.Acts.{submit-line, withdraw-line, clock-line}
 use Rattle.script.proofs.Acted.{at-submit, at-withdraw, at-clock, no-act, act-fits}
 use Rattle.script.proofs.acts.next_act.Statement.{statement}
@@ -51,24 +52,6 @@ first-no c = first (c .before) false (c .if1 .left)
 second-no : (c : tie.Else2) → begins withdraw-line (rest (from-2 (c .before))) ≡ false
 second-no c = second (c .before) false (c .if2 .left)
 
-sub-rest : tie.Need-sub-rest
-sub-rest c = search needs
-
-part-rest-start : tie.Need-part-rest-start
-part-rest-start c = search needs
-
-part-rest-end : tie.Need-part-rest-end
-part-rest-end c = search needs
-
-slice-aggregate-begins-with : tie.Need-slice-aggregate-begins-with
-slice-aggregate-begins-with c = search needs
-
-begins-with-requires : tie.Need-begins-with-requires
-begins-with-requires c κs = search needs
-
-add-submission : tie.Need-add-submission
-add-submission c = search needs
-
 submission-requires : tie.Need-submission-requires
 submission-requires c κs =
     let s = from-1 (c .before) in
@@ -77,16 +60,7 @@ submission-requires c κs =
 returns : tie.Need-returns
 returns c =
     let s = from-1 (c .before .before) in
-    c .submission .ensures ∙ sym (at-submit (text s) (s .args .at) (s .pre) (first (c .before .before) true (c .before .if1 .taken)))
-
-slice-aggregate-begins-with-2 : tie.Need-slice-aggregate-begins-with-2
-slice-aggregate-begins-with-2 c = search needs
-
-begins-with-requires-2 : tie.Need-begins-with-requires-2
-begins-with-requires-2 c κs = search needs
-
-add-withdrawal : tie.Need-add-withdrawal
-add-withdrawal c = search needs
+    c .submission .ensures ∙ sym (at-submit default-machines (text s) (s .args .at) (s .pre) (first (c .before .before) true (c .before .if1 .taken)))
 
 withdrawal-requires : tie.Need-withdrawal-requires
 withdrawal-requires c κs =
@@ -97,19 +71,11 @@ returns-2 : tie.Need-returns-2
 returns-2 c =
     let compared = c .before .before in
     let s = from-2 compared in
-    c .withdrawal .ensures ∙ sym (at-withdraw (text s) (s .args .at) (s .pre) (first-no (compared .before .before)) (second compared true (c .before .if2 .taken)))
+    let yes = second compared true (c .before .if2 .taken) in
+    c .withdrawal .ensures ∙ sym (at-withdraw default-machines (text s) (s .args .at) (s .pre) (first-no (compared .before .before)) yes)
 
-slice-aggregate-begins-with-3 : tie.Need-slice-aggregate-begins-with-3
-slice-aggregate-begins-with-3 c = search needs
-
-begins-with-requires-3 : tie.Need-begins-with-requires-3
-begins-with-requires-3 c κs = search needs
-
-add-clock-move : tie.Need-add-clock-move
-add-clock-move c = search needs
-
-clock-move-requires : tie.Need-clock-move-requires
-clock-move-requires c κs =
+advancement-requires : tie.Need-advancement-requires
+advancement-requires c κs =
     let s = from-3 (c .before) in
     act-fits (text s) (s .args .at) (s .pre) clock-line (third (c .before) true (c .if3 .taken))
 
@@ -118,41 +84,38 @@ returns-3 c =
     let compared = c .before .before in
     let s = from-3 compared in
     let no = compared .before .before in
-    c .clock-move .ensures
-    ∙ sym (at-clock (text s) (s .args .at) (s .pre) (first-no (no .before .before .before)) (second-no no) (third compared true (c .before .if3 .taken)))
-
-without-call-requires : tie.Need-without-call-requires
-without-call-requires c κs = search needs
+    let yes = third compared true (c .before .if3 .taken) in
+    c .advancement .ensures ∙ sym (at-clock default-machines (text s) (s .args .at) (s .pre) (first-no (no .before .before .before)) (second-no no) yes)
 
 returns-4 : tie.Need-returns-4
 returns-4 c =
     let compared = c .before .before in
     let s = from-3 compared in
     let no = compared .before .before in
-    c .without-call .ensures
-    ∙ sym (no-act (text s) (s .args .at) (s .pre) (first-no (no .before .before .before)) (second-no no) (third compared false (c .before .if3 .left)))
+    let none = third compared false (c .before .if3 .left) in
+    c .without-call .ensures ∙ sym (no-act default-machines (text s) (s .args .at) (s .pre) (first-no (no .before .before .before)) (second-no no) none)
 
 pub next-act-spec : {M : Type 1} → statement M
 next-act-spec =
     tie.close
     (tie.spec
-    sub-rest
-    part-rest-start
-    part-rest-end
-    slice-aggregate-begins-with
-    begins-with-requires
-    add-submission
+    (λ c. search needs)
+    (λ c. search needs)
+    (λ c. search needs)
+    (λ c. search needs)
+    (λ c κs. search needs)
+    (λ c. search needs)
     submission-requires
     returns
-    slice-aggregate-begins-with-2
-    begins-with-requires-2
-    add-withdrawal
+    (λ c. search needs)
+    (λ c κs. search needs)
+    (λ c. search needs)
     withdrawal-requires
     returns-2
-    slice-aggregate-begins-with-3
-    begins-with-requires-3
-    add-clock-move
-    clock-move-requires
+    (λ c. search needs)
+    (λ c κs. search needs)
+    (λ c. search needs)
+    advancement-requires
     returns-3
-    without-call-requires
+    (λ c κs. search needs)
     returns-4)

@@ -5,75 +5,53 @@ use Rattle.script.proofs.Listed.{rows-asked, whole-listing}
 use Rattle.script.proofs.listing.put_listing.Statement.{statement}
 use Rattle.script.proofs.listing.put_listing.Tie as tie
 
-clock-requires : tie.Need-clock-requires
-clock-requires c κs = search needs
+-- The stops: the heading is written, the register was asked for its rows, and first for its clock.
 
-total-requires : tie.Need-total-requires
-total-requires c κs = search needs
+abbrev headed : tie.After-put-rows → tie.After-put-heading
+headed c = c .before .before .before .before
 
-count-requires : tie.Need-count-requires
-count-requires c κs = search needs
+abbrev asked : tie.After-put-heading → tie.After-rows
+asked c = c .before .before
 
-rows-requires : tie.Need-rows-requires
-rows-requires c κs = search needs
-
-put-heading-requires : tie.Need-put-heading-requires
-put-heading-requires c κs = search needs
+abbrev clocked : tie.After-rows → tie.After-clock
+clocked c = c .before .before .before
 
 put-rows-requires : tie.Need-put-rows-requires
 put-rows-requires c κs =
-    let start = c .before .before .before .before .before .before .before .before .before .before in
-    let heading = c .before .before .before .put-heading .ensures in
-    let next = heading .puts .next-is in
-    let short = heading .short in
-    let kept = c .before .before .before .put-heading .kept .0 in
+    let head = c .before .before .before in
+    let rows = asked head in
+    let clock = clocked rows .clock .ensures in
+    let total = rows .before .before .total .ensures in
+    let start = clocked rows .before .before in
+    let next = head .put-heading .ensures .puts .next-is in
+    let short = head .put-heading .ensures .short in
+    let kept = head .put-heading .kept .0 in
     let room = start .pre .room in
     record {
-      order =
-          rows-asked
-          (start .args .register)
-          (start .pre .valid)
-          (c .before .before .before .before .before .before .before .before .clock .result)
-          (c .before .before .before .before .before .before .before .total .result)
-          (c .before .before .before .before .before .before .count .result)
-          (c .before .before .before .before .before .rows .result)
-          (c .before .before .before .before .before .before .before .before .clock .ensures)
-          (c .before .before .before .before .before .before .before .total .ensures)
-          (c .before .before .before .before .before .before .count .ensures)
-          (c .before .before .before .before .before .rows .ensures);
+      order = rows-asked _ (start .pre .valid) _ _ _ _ clock total (rows .before .count .ensures) (rows .rows .ensures);
       room = omega arith;
     }
 
-same-length : tie.Need-same-length
-same-length c = search needs
-
 returns : tie.Need-returns
 returns c =
-    let start = c .before .before .before .before .before .before .before .before .before .before .before .before .before in
-    whole-listing
-    (start .args .register)
-    (start .pre .valid)
-    (c .before .before .before .before .before .before .before .before .before .before .before .clock .result)
-    (c .before .before .before .before .before .before .before .before .before .before .total .result)
-    (c .before .before .before .before .before .before .before .before .before .count .result)
-    (c .before .before .before .before .before .before .before .before .rows .result)
-    (c .before .before .before .before .before .before .before .before .before .before .before .clock .ensures)
-    (c .before .before .before .before .before .before .before .before .before .before .total .ensures)
-    (c .before .before .before .before .before .before .before .before .before .count .ensures)
-    (c .before .before .before .before .before .before .before .before .rows .ensures)
-    (let room = start .pre .room in omega arith)
-    (c .before .before .before .before .before .before .put-heading .ensures .puts)
-    (c .before .before .put-rows .ensures)
+    let put = c .before .before in
+    let rows = asked (headed put) in
+    let clock = clocked rows .clock .ensures in
+    let total = rows .before .before .total .ensures in
+    let start = clocked rows .before .before in
+    let room = start .pre .room in
+    let head = headed put .put-heading .ensures .puts in
+    whole-listing _ (start .pre .valid) _ _ _ _ clock total (rows .before .count .ensures) (rows .rows .ensures) (omega arith) head (put .put-rows .ensures)
 
 pub put-listing-spec : {M : Type 1} → statement M
 put-listing-spec =
     tie.close
     (tie.spec
-    clock-requires
-    total-requires
-    count-requires
-    rows-requires
-    put-heading-requires
+    (λ c κs. search needs)
+    (λ c κs. search needs)
+    (λ c κs. search needs)
+    (λ c κs. search needs)
+    (λ c κs. search needs)
     put-rows-requires
-    same-length
+    (λ c. search needs)
     returns)

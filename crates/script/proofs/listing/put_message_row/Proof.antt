@@ -1,124 +1,88 @@
 -- `script::listing::put_message_row` meets its contract: seven fields, one after the other.
-use mathlib.Core.List.{List, _++_}
-use Prim.Native.Nat.{ℕ, _+_}
+use Prim.Native.Nat.{_+_, _≤_}
 use native.Mathlib.Omega.{arith}
+use lib.ListN.{length}
 use borrow.Author.Needs.{needs}
-use Rattle.jobtext.specs.Figures.{field}
-use Rattle.jobtext.specs.JobText.{job-key, from-key, to-key}
+use Rattle.script.specs.Keys.{job-key, from-key, to-key}
 use Rattle.script.specs.Replies.{task-key}
-use Rattle.script.specs.Listing.{link-key, start-key, finish-key}
-use Rattle.script.proofs.Fields.{Within, first-field, within-field, within-room, at-most}
+use Rattle.script.specs.Listing.{link-key, start-key, finish-key, message-listed}
+use Rattle.script.specs.Parts.{most-row}
+use Rattle.script.proofs.Fields.{PutWithin, first-field, within-field, at-most}
 use Rattle.script.proofs.listing.put_message_row.Statement.{statement}
 use Rattle.script.proofs.listing.put_message_row.Tie as tie
 
--- the bytes so far, after each field
-abbrev bytes-1 : tie.Start → List ℕ
-bytes-1 s = field link-key (s .args .source)
+-- The stops: the start, and the output after each field.
 
-abbrev bytes-2 : tie.Start → List ℕ
-bytes-2 s = bytes-1 s ++ field to-key (s .args .target)
+abbrev start : tie.After-put-any-field → tie.Start
+start c = c .before .before .before .before
 
-abbrev bytes-3 : tie.Start → List ℕ
-bytes-3 s = bytes-2 s ++ field job-key (s .args .row .job)
+abbrev output-1 : tie.After-put-any-field2 → tie.After-output
+output-1 c = c .before .before .before .before
 
-abbrev bytes-4 : tie.Start → List ℕ
-bytes-4 s = bytes-3 s ++ field from-key (s .args .sender)
+abbrev output-2 : tie.After-put-any-field3 → tie.After-output2
+output-2 c = c .before .before .before .before
 
-abbrev bytes-5 : tie.Start → List ℕ
-bytes-5 s = bytes-4 s ++ field task-key (s .args .receiver)
+abbrev output-3 : tie.After-put-any-field4 → tie.After-output3
+output-3 c = c .before .before .before .before
 
-abbrev bytes-6 : tie.Start → List ℕ
-bytes-6 s = bytes-5 s ++ field start-key (s .args .row .start)
+abbrev output-4 : tie.After-put-any-field5 → tie.After-output4
+output-4 c = c .before .before .before .before
 
-abbrev bytes-7 : tie.Start → List ℕ
-bytes-7 s = bytes-6 s ++ field finish-key (s .args .row .finish)
+abbrev output-5 : tie.After-put-any-field6 → tie.After-output5
+output-5 c = c .before .before .before .before
 
-after-1 : (c : tie.After-put-field) → Within (c .before .before .before .before .args .output .now) (c .before .before .before .before .args .at) (bytes-1 (c .before .before .before .before)) (c .put-field .last .0) (c .put-field .result) 26
-after-1 c = first-field link-key (omega (arith, c .before .before .before .before .pre)) (c .put-field .ensures)
+abbrev output-6 : tie.After-put-any-field7 → tie.After-output6
+output-6 c = c .before .before .before .before
 
-after-2 : (c : tie.After-put-field2) → Within (c .before .before .before .before .before .before .before .before .before .args .output .now) (c .before .before .before .before .before .before .before .before .before .args .at) (bytes-2 (c .before .before .before .before .before .before .before .before .before)) (c .put-field2 .last .0) (c .put-field2 .result) 50
-after-2 c = within-field to-key (omega (arith, c .before .before .before .before .before .before .before .before .before .pre)) (after-1 (c .before .before .before .before .before)) (c .put-field2 .ensures)
+abbrev first : tie.After-put-any-field6 → tie.After-put-any-field
+first c = output-1 (output-2 (output-3 (output-4 (output-5 c .before) .before) .before) .before) .before
 
-after-3 : (c : tie.After-put-field3) → Within (c .before .before .before .before .before .before .before .before .before .before .before .before .before .before .args .output .now) (c .before .before .before .before .before .before .before .before .before .before .before .before .before .before .args .at) (bytes-3 (c .before .before .before .before .before .before .before .before .before .before .before .before .before .before)) (c .put-field3 .last .0) (c .put-field3 .result) 75
-after-3 c = within-field job-key (omega (arith, c .before .before .before .before .before .before .before .before .before .before .before .before .before .before .pre)) (after-2 (c .before .before .before .before .before)) (c .put-field3 .ensures)
+-- the room that the first field leaves
+left : (c : tie.After-put-any-field) → c .put-any-field .result + 156 ≤ length (c .put-any-field .last .0)
+left c = search needs
 
-after-4 : (c : tie.After-put-field4) → Within (c .before .before .before .before .before .before .before .before .before .before .before .before .before .before .before .before .before .before .before .args .output .now) (c .before .before .before .before .before .before .before .before .before .before .before .before .before .before .before .before .before .before .before .args .at) (bytes-4 (c .before .before .before .before .before .before .before .before .before .before .before .before .before .before .before .before .before .before .before)) (c .put-field4 .last .0) (c .put-field4 .result) 101
-after-4 c = within-field from-key (omega (arith, c .before .before .before .before .before .before .before .before .before .before .before .before .before .before .before .before .before .before .before .pre)) (after-3 (c .before .before .before .before .before)) (c .put-field4 .ensures)
-
-after-5 : (c : tie.After-put-field5) → Within (c .before .before .before .before .before .before .before .before .before .before .before .before .before .before .before .before .before .before .before .before .before .before .before .before .args .output .now) (c .before .before .before .before .before .before .before .before .before .before .before .before .before .before .before .before .before .before .before .before .before .before .before .before .args .at) (bytes-5 (c .before .before .before .before .before .before .before .before .before .before .before .before .before .before .before .before .before .before .before .before .before .before .before .before)) (c .put-field5 .last .0) (c .put-field5 .result) 127
-after-5 c = within-field task-key (omega (arith, c .before .before .before .before .before .before .before .before .before .before .before .before .before .before .before .before .before .before .before .before .before .before .before .before .pre)) (after-4 (c .before .before .before .before .before)) (c .put-field5 .ensures)
-
-after-6 : (c : tie.After-put-field6) → Within (c .before .before .before .before .before .before .before .before .before .before .before .before .before .before .before .before .before .before .before .before .before .before .before .before .before .before .before .before .before .args .output .now) (c .before .before .before .before .before .before .before .before .before .before .before .before .before .before .before .before .before .before .before .before .before .before .before .before .before .before .before .before .before .args .at) (bytes-6 (c .before .before .before .before .before .before .before .before .before .before .before .before .before .before .before .before .before .before .before .before .before .before .before .before .before .before .before .before .before)) (c .put-field6 .last .0) (c .put-field6 .result) 154
-after-6 c = within-field start-key (omega (arith, c .before .before .before .before .before .before .before .before .before .before .before .before .before .before .before .before .before .before .before .before .before .before .before .before .before .before .before .before .before .pre)) (after-5 (c .before .before .before .before .before)) (c .put-field6 .ensures)
-
-after-7 : (c : tie.After-put-field7) → Within (c .before .before .before .before .before .before .before .before .before .before .before .before .before .before .before .before .before .before .before .before .before .before .before .before .before .before .before .before .before .before .before .before .before .before .args .output .now) (c .before .before .before .before .before .before .before .before .before .before .before .before .before .before .before .before .before .before .before .before .before .before .before .before .before .before .before .before .before .before .before .before .before .before .args .at) (bytes-7 (c .before .before .before .before .before .before .before .before .before .before .before .before .before .before .before .before .before .before .before .before .before .before .before .before .before .before .before .before .before .before .before .before .before .before)) (c .put-field7 .last .0) (c .put-field7 .result) 182
-after-7 c = within-field finish-key (omega (arith, c .before .before .before .before .before .before .before .before .before .before .before .before .before .before .before .before .before .before .before .before .before .before .before .before .before .before .before .before .before .before .before .before .before .before .pre)) (after-6 (c .before .before .before .before .before)) (c .put-field7 .ensures)
-
-slice-aggregate-put-field : tie.Need-slice-aggregate-put-field
-slice-aggregate-put-field c = search needs
-
-put-field-requires : tie.Need-put-field-requires
-put-field-requires c κs = search needs
-
-slice-aggregate-put-field-2 : tie.Need-slice-aggregate-put-field-2
-slice-aggregate-put-field-2 c = search needs
-
-put-field-requires-2 : tie.Need-put-field-requires-2
-put-field-requires-2 c κs = search needs
-
-slice-aggregate-put-field-3 : tie.Need-slice-aggregate-put-field-3
-slice-aggregate-put-field-3 c = search needs
-
-put-field-requires-3 : tie.Need-put-field-requires-3
-put-field-requires-3 c κs = search needs
-
-slice-aggregate-put-field-4 : tie.Need-slice-aggregate-put-field-4
-slice-aggregate-put-field-4 c = search needs
-
-put-field-requires-4 : tie.Need-put-field-requires-4
-put-field-requires-4 c κs = search needs
-
-slice-aggregate-put-field-5 : tie.Need-slice-aggregate-put-field-5
-slice-aggregate-put-field-5 c = search needs
-
-put-field-requires-5 : tie.Need-put-field-requires-5
-put-field-requires-5 c κs = search needs
-
-slice-aggregate-put-field-6 : tie.Need-slice-aggregate-put-field-6
-slice-aggregate-put-field-6 c = search needs
-
-put-field-requires-6 : tie.Need-put-field-requires-6
-put-field-requires-6 c κs = search needs
-
-slice-aggregate-put-field-7 : tie.Need-slice-aggregate-put-field-7
-slice-aggregate-put-field-7 c = search needs
-
-put-field-requires-7 : tie.Need-put-field-requires-7
-put-field-requires-7 c κs = let room = within-room 28 (omega (arith, c .before .before .before .before .before .before .before .before .before .before .before .before .before .before .before .before .before .before .before .before .before .before .before .before .before .before .before .before .before .before .before .before .before .pre)) (after-6 (c .before .before .before .before)) in omega arith
-
-same-length : tie.Need-same-length
-same-length c = after-7 (c .before .before) .long
-
-returns : tie.Need-returns
-returns c = at-most (after-7 (c .before .before))
+written :
+    (c : tie.After-put-any-field7) →
+    let a = start (first (output-6 c .before)) .args in
+    PutWithin
+    (a .output .now)
+    (a .at)
+    (message-listed (a .source) (a .target) (a .sender) (a .receiver) (a .row))
+    (c .put-any-field7 .last .0)
+    (c .put-any-field7 .result)
+    most-row
+written c =
+    let sixth = output-6 c .before in
+    let fifth = output-5 sixth .before in
+    let fourth = output-4 fifth .before in
+    let third = output-3 fourth .before in
+    let second = output-2 third .before in
+    let room = start (first sixth) .pre in
+    let one = first-field link-key (omega arith) (first sixth .put-any-field .ensures) in
+    let two = within-field to-key (omega arith) one (second .put-any-field2 .ensures) in
+    let three = within-field job-key (omega arith) two (third .put-any-field3 .ensures) in
+    let four = within-field from-key (omega arith) three (fourth .put-any-field4 .ensures) in
+    let five = within-field task-key (omega arith) four (fifth .put-any-field5 .ensures) in
+    let six = within-field start-key (omega arith) five (sixth .put-any-field6 .ensures) in
+    within-field finish-key (omega arith) six (c .put-any-field7 .ensures)
 
 pub put-message-row-spec : {M : Type 1} → statement M
 put-message-row-spec =
     tie.close
     (tie.spec
-    slice-aggregate-put-field
-    put-field-requires
-    slice-aggregate-put-field-2
-    put-field-requires-2
-    slice-aggregate-put-field-3
-    put-field-requires-3
-    slice-aggregate-put-field-4
-    put-field-requires-4
-    slice-aggregate-put-field-5
-    put-field-requires-5
-    slice-aggregate-put-field-6
-    put-field-requires-6
-    slice-aggregate-put-field-7
-    put-field-requires-7
-    same-length
-    returns)
+    (λ c. search needs)
+    (λ c κs. search needs)
+    (λ c. search needs)
+    (λ c κs. search needs)
+    (λ c. search needs)
+    (λ c κs. search needs)
+    (λ c. search needs)
+    (λ c κs. search needs)
+    (λ c. search needs)
+    (λ c κs. search needs)
+    (λ c. search needs)
+    (λ c κs. search needs)
+    (λ c. search needs)
+    (λ c κs. search (left (first (c .before .before .before .before)), needs))
+    (λ c. written (c .before .before) .long)
+    (λ c. at-most (written (c .before .before))))

@@ -11,106 +11,42 @@ Inv-loop output₀ at count rows keys next₀ k₀ output next k = RowsListed ou
 abbrev μ-loop : tie.MeasureT-loop
 μ-loop output₀ at count rows keys next₀ k₀ output next k = count - k
 
-order-of-requires : tie.Need-order-of-requires Inv-loop μ-loop
-order-of-requires c κs = c .before .pre .order
+-- The stops: the start, and a turn's test.
+
+abbrev start : tie.At-loop Inv-loop μ-loop → tie.Start Inv-loop μ-loop
+start c = c .before .before .before
+
+abbrev turn : tie.After-put-row Inv-loop μ-loop → tie.In-loop Inv-loop μ-loop
+turn c = c .before .before .before
 
 loop-holds : tie.Need-loop-holds Inv-loop μ-loop
 loop-holds c =
-    let start = c .before .before in
-    rows-none
-    (start .args .output .now)
-    (start .args .at)
-    (start .args .t3)
-    (start .args .count)
-    (c .order-of .result)
-    (c .order-of .ensures)
-    (start .pre .order .at-most)
-    (start .pre .order .long)
-    (start .pre .room)
-
-mul-key : tie.Need-mul-key Inv-loop μ-loop
-mul-key c = let most = c .before .before .before .before .pre .order .at-most in omega arith
-
-array-read-key : tie.Need-array-read-key Inv-loop μ-loop
-array-read-key c = let most = c .before .before .before .before .pre .order .at-most in omega arith
-
-mul-row : tie.Need-mul-row Inv-loop μ-loop
-mul-row c = omega arith
-
-array-copy-out-row : tie.Need-array-copy-out-row Inv-loop μ-loop
-array-copy-out-row c = omega arith
+    let asked = c .before .before .pre in
+    rows-none _ _ _ _ _ (c .order-of .ensures) (asked .order .at-most) (asked .order .long) (asked .room)
 
 put-row-requires : tie.Need-put-row-requires Inv-loop μ-loop
 put-row-requires c κs =
-    let at = c .before .before .before in
-    let start = c .before .before .before .before .before .before in
-    row-room
-    (start .args .output .now)
-    (start .args .at)
-    (start .args .t3)
-    (start .args .count)
-    (c .before .before .before .before .order-of .result)
-    (c .before .before .before .before .order-of .ensures)
-    (start .pre .order .at-most)
-    (start .pre .order .long)
-    (start .pre .room)
-    (at .loop .output)
-    (at .loop .next)
-    (at .loop .k)
-    (c .before .before .loop-test .taken)
-    (at .loop .inv)
-
-add-k : tie.Need-add-k Inv-loop μ-loop
-add-k c = let most = c .before .before .before .before .before .before .before .before .before .pre .order .at-most in omega arith
-
-loop-less : tie.Need-loop-less Inv-loop μ-loop
-loop-less c = omega arith
+    let turn = c .before .before in
+    let head = turn .before in
+    let asked = start head .pre in
+    let order = head .before .order-of .ensures in
+    row-room _ _ _ _ _ order (asked .order .at-most) (asked .order .long) (asked .room) _ _ _ (turn .loop-test .taken) (head .loop .inv)
 
 loop-again : tie.Need-loop-again Inv-loop μ-loop
 loop-again c =
-    let at = c .before .before .before .before .before .before in
-    let start = c .before .before .before .before .before .before .before .before .before in
-    rows-more
-    (start .args .output .now)
-    (start .args .at)
-    (start .args .t3)
-    (start .args .count)
-    (c .before .before .before .before .before .before .before .order-of .result)
-    (c .before .before .before .before .before .before .before .order-of .ensures)
-    (start .pre .order .at-most)
-    (start .pre .order .long)
-    (start .pre .room)
-    (at .loop .output)
-    (at .loop .next)
-    (at .loop .k)
-    (c .before .before .before .before .before .loop-test .taken)
-    (at .loop .inv)
-    (c .before .before .put-row .last .0)
-    (c .before .before .put-row .result)
-    (c .before .before .put-row .ensures)
-
-same-length : tie.Need-same-length Inv-loop μ-loop
-same-length c = c .before .loop .inv .within .long
+    let put = c .before .before in
+    let head = turn put .before in
+    let asked = start head .pre in
+    let order = head .before .order-of .ensures in
+    let taken = turn put .loop-test .taken in
+    rows-more _ _ _ _ _ order (asked .order .at-most) (asked .order .long) (asked .room) _ _ _ taken (head .loop .inv) _ _ (put .put-row .ensures)
 
 returns : tie.Need-returns Inv-loop μ-loop
 returns c =
-    let at = c .before in
-    let start = c .before .before .before .before in
-    rows-all
-    (start .args .output .now)
-    (start .args .at)
-    (start .args .t3)
-    (start .args .count)
-    (c .before .before .order-of .result)
-    (c .before .before .order-of .ensures)
-    (start .pre .order .at-most)
-    (start .pre .order .long)
-    (start .pre .room)
-    (at .loop .output)
-    (at .loop .next)
-    (at .loop .k)
-    (c .loop-test .left)
-    (at .loop .inv)
+    let head = c .before in
+    let asked = start head .pre in
+    let order = head .before .order-of .ensures in
+    rows-all _ _ _ _ _ order (asked .order .at-most) (asked .order .long) (asked .room) _ _ _ (c .loop-test .left) (head .loop .inv)
 
 pub put-rows-spec : {M : Type 1} → statement M
 put-rows-spec =
@@ -118,15 +54,15 @@ put-rows-spec =
     (tie.spec
     Inv-loop
     μ-loop
-    order-of-requires
+    (λ c κs. c .before .pre .order)
     loop-holds
-    mul-key
-    array-read-key
-    mul-row
-    array-copy-out-row
+    (λ c. omega (arith, start (c .before) .pre .order .at-most))
+    (λ c. omega (arith, start (c .before) .pre .order .at-most))
+    (λ c. omega arith)
+    (λ c. omega arith)
     put-row-requires
-    add-k
-    loop-less
+    (λ c. omega (arith, start (turn (c .before .before) .before) .pre .order .at-most))
+    (λ c. omega arith)
     loop-again
-    same-length
+    (λ c. c .before .loop .inv .within .long)
     returns)

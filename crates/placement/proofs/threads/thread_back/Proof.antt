@@ -1,0 +1,91 @@
+-- `placement::threads::thread_back` meets its contract: the first i entries are threaded.
+use Prim.Native.Nat.{_-_, _+_, _<_}
+use native.Mathlib.Omega.{arith}
+use lib.ListN.{getD}
+use mathlib.Core.Path.{refl}
+use Rattle.rules.proofs.Sums.{less-next, below-fits, next-fits, index-fits}
+use Rattle.placement.proofs.Sums.{thread-place, key-place}
+use Rattle.placement.specs.Columns.{room}
+use Rattle.placement.specs.Threads.{resource-bound, nodes}
+use Rattle.placement.proofs.Threading.{MadeBack, made-back-none, made-back-more, made-back-all}
+use Rattle.placement.proofs.threads.thread_back.Statement.{statement}
+use Rattle.placement.proofs.threads.thread_back.Tie as tie
+
+abbrev Inv-loop : tie.InvT-loop
+Inv-loop resources count backs₀ i₀ backs i = MadeBack resources count backs i
+
+abbrev μ-loop : tie.MeasureT-loop
+μ-loop resources count backs₀ i₀ backs i = count - i
+
+loop-holds : tie.Need-loop-holds Inv-loop μ-loop
+loop-holds c = rw (c .pre .1) (made-back-none _ _)
+
+-- the entry at hand
+entry-below : (c : tie.In-loop Inv-loop μ-loop) → c .before .loop .i < room
+entry-below c = omega (arith, c .loop-test .taken, c .before .before .pre .0 .few)
+
+entry-place : (c : tie.In-loop Inv-loop μ-loop) → resource-bound + c .before .loop .i < nodes
+entry-place c = thread-place _ _ (c .loop-test .taken) (c .before .before .pre .0 .few)
+
+key-known : (c : tie.In-loop Inv-loop μ-loop) → getD (c .before .before .args .resources .now) (c .before .loop .i) 0 < nodes
+key-known c = key-place _ (c .before .before .pre .0 .known _ (c .loop-test .taken))
+
+mul-key : tie.Need-mul-key Inv-loop μ-loop
+mul-key c = index-fits _ (entry-below c) refl
+
+element-copy-out-key : tie.Need-element-copy-out-key Inv-loop μ-loop
+element-copy-out-key c = entry-below c
+
+mul-back : tie.Need-mul-back Inv-loop μ-loop
+mul-back c = index-fits _ (key-known (c .before)) refl
+
+element-copy-out-back : tie.Need-element-copy-out-back Inv-loop μ-loop
+element-copy-out-back c = key-known (c .before)
+
+add-backs : tie.Need-add-backs Inv-loop μ-loop
+add-backs c = below-fits (entry-place (c .before .before)) refl
+
+mul-backs : tie.Need-mul-backs Inv-loop μ-loop
+mul-backs c = index-fits _ (entry-place (c .before .before)) refl
+
+element-write-backs : tie.Need-element-write-backs Inv-loop μ-loop
+element-write-backs c = entry-place (c .before .before)
+
+add-i : tie.Need-add-i Inv-loop μ-loop
+add-i c = next-fits (entry-below (c .before .before)) refl
+
+mul-backs-2 : tie.Need-mul-backs-2 Inv-loop μ-loop
+mul-backs-2 c = index-fits _ (key-known (c .before .before)) refl
+
+element-write-backs-2 : tie.Need-element-write-backs-2 Inv-loop μ-loop
+element-write-backs-2 c = key-known (c .before .before)
+
+loop-less : tie.Need-loop-less Inv-loop μ-loop
+loop-less c = less-next _ _ (c .before .before .loop-test .taken)
+
+loop-again : tie.Need-loop-again Inv-loop μ-loop
+loop-again c = made-back-more (c .before .before .before .before .pre .0) (c .before .before .before .loop .inv) (c .before .before .loop-test .taken)
+
+returns : tie.Need-returns Inv-loop μ-loop
+returns c = made-back-all (c .before .loop .inv) (c .loop-test .left)
+
+pub thread-back-spec : {M : Type 1} → statement M
+thread-back-spec =
+    tie.close
+    (tie.spec
+    Inv-loop
+    μ-loop
+    loop-holds
+    mul-key
+    element-copy-out-key
+    mul-back
+    element-copy-out-back
+    add-backs
+    mul-backs
+    element-write-backs
+    add-i
+    mul-backs-2
+    element-write-backs-2
+    loop-less
+    loop-again
+    returns)

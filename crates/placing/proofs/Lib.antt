@@ -1,3 +1,0 @@
--- What the proofs of the functions cite.
-pub mod Filling
-pub mod Ranges

@@ -1,2 +1,0 @@
--- The jobs that the program places.
-pub mod Jobs

@@ -14,7 +14,8 @@ use Rattle.rules.specs.declared.Task.{Task}
 use Rattle.rules.specs.declared.Job.{Job}
 use Rattle.rules.specs.declared.Setup.{Setup}
 use Rattle.rules.specs.Sequences.{keep, foremost}
-use Rattle.rules.specs.Words.{most-tasks, largest-time, horizon, machines, task-numbers, named, no-task, task-of, run-time}
+use Rattle.rules.specs.Words.{most-tasks, largest-time, horizon, machines, task-numbers, no-task, task-of, run-time}
+use Rattle.rules.specs.Asked.{named}
 use Rattle.rules.specs.Refusals.{outside, task-out-of-range, out-of-range, infeasible, first-infeasible}
 use Rattle.rules.specs.Laws.{IsTask}
 use Rattle.rules.proofs.Sequences.{by-test, clash, or-false, any-none, keep-mem, mem-keep, mem-map, map-mem, mem-numbers, numbers-mem}

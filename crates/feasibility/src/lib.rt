@@ -10,7 +10,8 @@ use rules::Setup;
 use rules::Task;
 ghost use mathlib.Core.Path.{_≡_};
 ghost use Prim.Native.Nat.{_≤_};
-ghost use Rattle.rules.specs.Words.{most-machines, named};
+ghost use Rattle.rules.specs.Words.{most-machines};
+ghost use Rattle.rules.specs.Asked.{named};
 ghost use Rattle.rules.specs.Refusals.{infeasible as rules-infeasible, first-infeasible as rules-first-infeasible};
 ghost use Rattle.feasibility.specs.Tests.{AskFeasible, AskTimes, TestOf, EarlyIs};
 

@@ -18,7 +18,8 @@ use Rattle.rules.specs.declared.Message.{Message}
 use Rattle.rules.specs.declared.Job.{Job}
 use Rattle.rules.specs.declared.Setup.{Setup}
 use Rattle.rules.specs.Sequences.{all-of}
-use Rattle.rules.specs.Words.{row-limit, most-tasks, messages-of, named}
+use Rattle.rules.specs.Words.{row-limit, most-tasks, messages-of}
+use Rattle.rules.specs.Asked.{named}
 use Rattle.rules.specs.Placing.{is-task, books-task, no-row, task-row, machine-of, machine-for, placed, into, ready, next-task, Trial, trial-rows, costs, try}
 use Rattle.rules.specs.Placing.{choice, Turn, over, misses, books, turn, Placing, booked, late, place-from, place}
 use Rattle.rules.specs.Laws.{IsNext, IsKept}

@@ -15,7 +15,8 @@ use Rattle.rules.specs.declared.Row.{Row}
 use Rattle.rules.specs.declared.Message.{Message}
 use Rattle.rules.specs.declared.Job.{Job}
 use Rattle.rules.specs.Sequences.{all-of, cons-if, keep, sum-of, numbers, precedes, foremost}
-use Rattle.rules.specs.Words.{most-tasks, most-messages, largest-time, horizon, messages-of, named, no-task, task-of}
+use Rattle.rules.specs.Words.{most-tasks, most-messages, largest-time, horizon, messages-of, no-task, task-of}
+use Rattle.rules.specs.Asked.{named}
 use Rattle.rules.specs.Laws.{IsTask}
 use Rattle.rules.specs.Placing.{placed, ready, next-task, release}
 use Rattle.rules.proofs.Sequences.{by-test, keep-append, sum-append, getD-mem}

@@ -5,7 +5,7 @@ use rules::TASKS;
 ghost use mathlib.Core.Path.{_≡_};
 ghost use mathlib.Core.List.{List};
 ghost use Rattle.rules.specs.declared.Row.{Row};
-ghost use Rattle.rules.specs.Words.{named};
+ghost use Rattle.rules.specs.Asked.{named};
 ghost use Rattle.rules.specs.Placing.{next-task};
 ghost use Rattle.placement.specs.Asked.{AskOrder, StandsFor, WaitingIs};
 

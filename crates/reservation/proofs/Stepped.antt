@@ -14,7 +14,8 @@ use Rattle.rules.specs.declared.Job.{Job}
 use Rattle.rules.specs.declared.Answer.{Answer}
 use Rattle.rules.specs.declared.Setup.{Setup}
 use Rattle.rules.specs.Sequences.{any-of, keep}
-use Rattle.rules.specs.Words.{State, View, view, of-job, row-limit, horizon, named}
+use Rattle.rules.specs.Words.{State, View, view, of-job, row-limit, horizon}
+use Rattle.rules.specs.Asked.{named}
 use Rattle.rules.specs.Placing.{no-row, costs, booked}
 use Rattle.rules.specs.Withdrawing.{admit, withdraw, advance, remove, ended}
 use Rattle.rules.specs.Refusals.{refuse-if, refusal, accepted, first-infeasible, placing, found, submit-tests, withdraw-tests, withdraw-answer}

@@ -1,8 +1,7 @@
 -- A reader must believe this: document 01, "Words and ranges": what is said of machines, links, jobs, rows and registers, and every limit.
 use mathlib.Core.Bool.{Bool, false, _&&_}
 use mathlib.Core.List.{List, [], _∷_, _++_, map}
-use mathlib.Core.Option.{Option, none, some}
-use Prim.Native.Nat.{ℕ, zero, suc, _+_, _-_, _*_, _≤_, _<_, max, min}
+use Prim.Native.Nat.{ℕ, _+_, _-_, _*_, _≤_, _<_, max, min}
 use lib.Dec.{ltb, eqb}
 use lib.ListN.{length, getD, take, replicate}
 use Rattle.rules.specs.declared.Holder.{Holder}
@@ -144,11 +143,6 @@ messages-of j = take (j .messagecount) (j .messages)
 
 abbrev pub task-numbers : Job → List ℕ
 task-numbers j = numbers 1 (j .taskcount)
-
--- the task that a number names: 0 names none
-abbrev pub named : ℕ → Option ℕ
-named zero = none
-named (suc t) = some (suc t)
 
 abbrev pub no-task : Task
 no-task = record { deadline = 0; dispatch = 0; runs = [] }

@@ -1,6 +1,6 @@
 // Calls that print their answers and hand on the register that they leave. What a refusal leaves is checked.
-use crate::listing::print_answer;
-use crate::listing::print_seen;
+use crate::printing::print_answer;
+use crate::printing::print_seen;
 use check::expect;
 use reservation::Register;
 use reservation::Reply;

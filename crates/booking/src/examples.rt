@@ -12,8 +12,8 @@ use crate::jobs::largest;
 use crate::jobs::later;
 use crate::jobs::sixteen;
 use crate::jobs::task;
-use crate::listing::heading;
-use crate::listing::print_register;
+use crate::printing::heading;
+use crate::printing::print_register;
 use rules::Job;
 
 // A job in a fresh register.

@@ -6,9 +6,9 @@ use crate::jobs::alone;
 use crate::jobs::one_row;
 use crate::jobs::task;
 use crate::jobs::three_rows;
-use crate::listing::heading;
-use crate::listing::print_answer;
-use crate::listing::print_state;
+use crate::printing::heading;
+use crate::printing::print_answer;
+use crate::printing::print_state;
 use reservation::Register;
 ghost use Rattle.reservation.specs.Registers.{Valid};
 

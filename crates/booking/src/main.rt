@@ -4,7 +4,7 @@ mod counting;
 mod examples;
 mod filling;
 mod jobs;
-mod listing;
+mod printing;
 mod refusals;
 
 use calls::fresh;
@@ -14,8 +14,8 @@ use examples::worked_examples;
 use filling::emptied;
 use filling::filled;
 use filling::refilled;
-use listing::print_register;
-use listing::print_state;
+use printing::print_register;
+use printing::print_state;
 use refusals::by_counts;
 use refusals::by_figures;
 use refusals::by_figures_of_tasks;
@@ -23,7 +23,7 @@ use refusals::by_messages;
 use refusals::by_order;
 use refusals::by_turns;
 use refusals::looks;
-use refusals::of_moves;
+use refusals::of_advances;
 use refusals::of_withdrawals;
 
 // One register after the worked examples: each part is handed what the last one left. The tally's parts have registers of their own.
@@ -38,7 +38,7 @@ fn main() {
     left = by_turns(left);
     left = of_withdrawals(left);
     looks(left);
-    left = of_moves(left);
+    left = of_advances(left);
     print_register(left);
     left = filled(left);
     left = refilled(left);

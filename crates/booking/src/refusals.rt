@@ -20,8 +20,8 @@ use crate::jobs::unrunnable;
 use crate::jobs::with_counts;
 use crate::jobs::with_message;
 use crate::jobs::with_task;
-use crate::listing::heading;
-use crate::listing::print_state;
+use crate::printing::heading;
+use crate::printing::print_state;
 use reservation::Register;
 use reservation::calls::Kind;
 ghost use Rattle.reservation.specs.Registers.{Valid};
@@ -222,11 +222,11 @@ pub fn looks(register: Register)
 }
 
 // 11 and 12, by the call of any kind.
-pub fn of_moves(register: Register) -> Register
+pub fn of_advances(register: Register) -> Register
     requires { ⌜ Valid register ⌝ }
     ensures { λ r. ⌜ Valid r ⌝ }
 {
-    heading(b"moves");
+    heading(b"advances");
     let none = job(0);
     let mut left = apply(register, Kind::Advance(3), none);
     left = apply(left, Kind::Advance(4), none);

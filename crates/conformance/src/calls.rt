@@ -41,7 +41,7 @@ fn other_call(both: Both, shape: Shape, seed: u64) -> Both
     if kind < shape.withdrawals {
         return withdraw(both, number_of(book, shape, seed));
     }
-    if kind < plus(shape.withdrawals, shape.moves) {
+    if kind < plus(shape.withdrawals, shape.advances) {
         return advance(both, tick_of(book, shape, seed));
     }
     let view = view_of(book, shape, seed);

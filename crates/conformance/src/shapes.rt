@@ -38,7 +38,7 @@ pub struct Shape {
     // How many of 16 calls are submissions, and of the others how many of 16 withdrawals and clock moves; the rest are looks.
     pub submissions: u64,
     pub withdrawals: u64,
-    pub moves: u64,
+    pub advances: u64,
     // The longest clock move, and whether the clock also goes to the starts and finishes of jobs.
     pub step: u64,
     pub jumps: bool,
@@ -62,7 +62,7 @@ fn usual(graph: Graph) -> Shape {
         limits: 0,
         submissions: 9,
         withdrawals: 6,
-        moves: 5,
+        advances: 5,
         step: 12,
         jumps: true,
     }
@@ -189,7 +189,7 @@ pub fn crowded() -> Shape {
     its.faults = 60;
     its.submissions = 11;
     its.withdrawals = 9;
-    its.moves = 2;
+    its.advances = 2;
     its.step = 3;
     its.jumps = false;
     its

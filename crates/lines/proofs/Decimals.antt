@@ -11,24 +11,25 @@ use borrow.Author.Tests.{ltb-true, leb-true, eqb-true, lt-ltb, le-ltb, le-leb, n
 use Rattle.rules.specs.Sequences.{all-of}
 use Rattle.rules.proofs.Sequences.{by-test, clash, and-true, and-both, or-left, or-right, by-less}
 use Rattle.lines.specs.Figures.{zero-digit, is-digit, value-after, value, digits-within, decimal}
-use Rattle.lines.specs.Lines.{largest-figure, well-written}
+use Rattle.lines.specs.Lines.{most-digits, largest-figure, well-written}
+use Rattle.lines.specs.Parts.{word-digits}
 use Rattle.lines.specs.Laws.{Decimal-steps, Decimal-says, Decimal-only}
 use Rattle.lines.proofs.Digits.{digit-yes}
 
 module _ (most n : ℕ) where
   -- one digit is enough, or it is not
   abbrev sized : Bool → List ℕ
-  sized true = (48 + n) ∷ []
-  sized false = digits-within most (n / 10) ++ ((48 + n % 10) ∷ [])
+  sized true = (zero-digit + n) ∷ []
+  sized false = digits-within most (n / 10) ++ ((zero-digit + n % 10) ∷ [])
 
   by-size : {t : Bool} → ltb n 10 ≡ t → digits-within (suc most) n ≡ sized t
   unfolding digits-within
   by-size e = ap sized e
 
-  within-small : n < 10 → digits-within (suc most) n ≡ (48 + n) ∷ []
+  within-small : n < 10 → digits-within (suc most) n ≡ (zero-digit + n) ∷ []
   within-small h = by-size (lt-ltb n 10 h)
 
-  within-step : 10 ≤ n → digits-within (suc most) n ≡ digits-within most (n / 10) ++ ((48 + n % 10) ∷ [])
+  within-step : 10 ≤ n → digits-within (suc most) n ≡ digits-within most (n / 10) ++ ((zero-digit + n % 10) ∷ [])
   within-step h = by-size (le-ltb n 10 h)
 
 -- any room above the number is enough
@@ -42,17 +43,17 @@ within-same (suc a) (suc b) n h k =
     (λ l. within-small a n l ∙ sym (within-small b n l))
     (λ l.
     within-step a n l
-    ∙ ap (λ l. l ++ ((48 + n % 10) ∷ [])) (within-same a b (n / 10) (omega arith) (omega arith))
+    ∙ ap (λ l. l ++ ((zero-digit + n % 10) ∷ [])) (within-same a b (n / 10) (omega arith) (omega arith))
     ∙ sym (within-step b n l))
 
-pub decimal-small : (n : ℕ) → n < 10 → decimal n ≡ (48 + n) ∷ []
+pub decimal-small : (n : ℕ) → n < 10 → decimal n ≡ (zero-digit + n) ∷ []
 unfolding decimal
 decimal-small n h = within-small n n h
 
-pub decimal-step : (n : ℕ) → 10 ≤ n → decimal n ≡ decimal (n / 10) ++ ((48 + n % 10) ∷ [])
+pub decimal-step : (n : ℕ) → 10 ≤ n → decimal n ≡ decimal (n / 10) ++ ((zero-digit + n % 10) ∷ [])
 unfolding decimal
 decimal-step n h =
-    within-step n n h ∙ ap (λ l. l ++ ((48 + n % 10) ∷ [])) (within-same n (suc (n / 10)) (n / 10) (omega arith) (omega arith))
+    within-step n n h ∙ ap (λ l. l ++ ((zero-digit + n % 10) ∷ [])) (within-same n (suc (n / 10)) (n / 10) (omega arith) (omega arith))
 
 pub decimal-steps : Decimal-steps
 decimal-steps n =
@@ -79,7 +80,7 @@ decimal-says =
     by-digits
     (λ n. value (decimal n) ≡ n)
     (λ n h. rw (decimal-small n h) (omega arith))
-    (λ n h below. rw (decimal-step n h, value-append 0 (decimal (n / 10)) ((48 + n % 10) ∷ []), below) (omega arith))
+    (λ n h below. rw (decimal-step n h, value-append 0 (decimal (n / 10)) ((zero-digit + n % 10) ∷ []), below) (omega arith))
 
 -- Which digits a number has.
 
@@ -89,20 +90,20 @@ all-append p (x ∷ a) b h k =
     let both = and-true (p x) (all-of p a) h in
     and-both (p x) (all-of p (a ++ b)) (both .0) (all-append p a b (both .1) k)
 
-one-digit : (d : ℕ) → d < 10 → all-of is-digit ((48 + d) ∷ []) ≡ true
-one-digit d h = rw (digit-yes (48 + d) (omega arith) (omega arith)) refl
+one-digit : (d : ℕ) → d < 10 → all-of is-digit ((zero-digit + d) ∷ []) ≡ true
+one-digit d h = rw (digit-yes (zero-digit + d) (omega arith) (omega arith)) refl
 
 pub decimal-digits : (n : ℕ) → all-of is-digit (decimal n) ≡ true
 decimal-digits =
     by-digits
     (λ n. all-of is-digit (decimal n) ≡ true)
     (λ n h. rw (decimal-small n h) (one-digit n h))
-    (λ n h below. rw (decimal-step n h) (all-append is-digit (decimal (n / 10)) ((48 + n % 10) ∷ []) below (one-digit (n % 10) (omega arith))))
+    (λ n h below. rw (decimal-step n h) (all-append is-digit (decimal (n / 10)) ((zero-digit + n % 10) ∷ []) below (one-digit (n % 10) (omega arith))))
 
 -- How many they are.
 
 pub step-length : (n : ℕ) → 10 ≤ n → length (decimal n) ≡ length (decimal (n / 10)) + 1
-step-length n h = rw (decimal-step n h) (length-append (decimal (n / 10)) ((48 + n % 10) ∷ []))
+step-length n h = rw (decimal-step n h) (length-append (decimal (n / 10)) ((zero-digit + n % 10) ∷ []))
 
 pub small-length : (n : ℕ) → n < 10 → length (decimal n) ≡ 1
 small-length n h = rw (decimal-small n h) refl
@@ -128,23 +129,23 @@ decimal-length (suc k) n some h =
     more zero b l = absurd (omega arith)
     more (suc j) b l = omega arith
 
-pub figure-length : (n : ℕ) → n ≤ largest-figure → length (decimal n) ≤ 10
-figure-length n h = decimal-length 10 n (omega arith) (omega arith)
+pub figure-length : (n : ℕ) → n ≤ largest-figure → length (decimal n) ≤ most-digits
+figure-length n h = decimal-length most-digits n (omega arith) (omega arith)
 
-pub word-length : (n : ℕ) → n < 2 ^ 64 → length (decimal n) ≤ 20
-word-length n h = decimal-length 20 n (omega arith) (omega arith)
+pub word-length : (n : ℕ) → n < 2 ^ 64 → length (decimal n) ≤ word-digits
+word-length n h = decimal-length word-digits n (omega arith) (omega arith)
 
 -- No leading zero.
 
-pub leading-digit : (n : ℕ) → 1 ≤ n → getD (decimal n) 0 0 ≡ 48 → ⊥
+pub leading-digit : (n : ℕ) → 1 ≤ n → getD (decimal n) 0 0 ≡ zero-digit → ⊥
 leading-digit =
     by-digits
-    (λ n. 1 ≤ n → getD (decimal n) 0 0 ≡ 48 → ⊥)
-    (λ n h some e. let z : 48 + n ≡ 48 = rw (decimal-small n h) at e in omega arith)
+    (λ n. 1 ≤ n → getD (decimal n) 0 0 ≡ zero-digit → ⊥)
+    (λ n h some e. let z : zero-digit + n ≡ zero-digit = rw (decimal-small n h) at e in omega arith)
     (λ n h below some e.
     below
     (omega arith)
-    (sym (List·getD-append (decimal (n / 10)) ((48 + n % 10) ∷ []) 0 0 (decimal-some (n / 10))) ∙ (rw (decimal-step n h) at e)))
+    (sym (List·getD-append (decimal (n / 10)) ((zero-digit + n % 10) ∷ []) 0 0 (decimal-some (n / 10))) ∙ (rw (decimal-step n h) at e)))
 
 pub decimal-well-written : (most n : ℕ) → length (decimal n) ≤ most → well-written most (decimal n) ≡ true
 unfolding well-written
@@ -165,15 +166,15 @@ decimal-well-written most n h =
     or-right
     (eqb (length (decimal n)) 1)
     (not (eqb (getD (decimal n) 0 0) zero-digit))
-    (rw (ne-eqb (getD (decimal n) 0 0) 48 (leading-digit n (omega arith))) refl)))
+    (rw (ne-eqb (getD (decimal n) 0 0) zero-digit (leading-digit n (omega arith))) refl)))
 
 -- They are the only well-written digits that say the number.
 
-pub digit-bounds : (b : ℕ) → is-digit b ≡ true → (48 ≤ b) × (b < 58)
+pub digit-bounds : (b : ℕ) → is-digit b ≡ true → (zero-digit ≤ b) × (b < zero-digit + 10)
 unfolding is-digit
 digit-bounds b e =
-    let both = and-true (leb 48 b) (ltb b 58) e in
-    (leb-true 48 b (both .0), ltb-true b 58 (both .1))
+    let both = and-true (leb zero-digit b) (ltb b (zero-digit + 10)) e in
+    (leb-true zero-digit b (both .0), ltb-true b (zero-digit + 10) (both .1))
 
 -- digits after a number that is not 0
 decimal-after : (n : ℕ) (ds : List ℕ) → 1 ≤ n → all-of is-digit ds ≡ true → decimal (value-after n ds) ≡ decimal n ++ ds
@@ -182,12 +183,12 @@ decimal-after n [] h e = sym (append-nil (decimal n))
 decimal-after n (d ∷ ds) h e =
     let both = and-true (is-digit d) (all-of is-digit ds) e in
     let b = digit-bounds d (both .0) in
-    let m : ℕ = n * 10 + (d - 48) in
+    let m : ℕ = n * 10 + (d - zero-digit) in
     let tenth : m / 10 ≡ n = omega arith in
-    let last : 48 + m % 10 ≡ d = omega arith in
+    let last : zero-digit + m % 10 ≡ d = omega arith in
     decimal-after m ds (omega arith) (both .1)
     ∙ ap (λ l. l ++ ds) (decimal-step m (omega arith))
-    ∙ ap (λ k. (decimal k ++ ((48 + m % 10) ∷ [])) ++ ds) tenth
+    ∙ ap (λ k. (decimal k ++ ((zero-digit + m % 10) ∷ [])) ++ ds) tenth
     ∙ ap (λ k. (decimal n ++ (k ∷ [])) ++ ds) last
     ∙ append-assoc (decimal n) (d ∷ []) ds
 
@@ -198,22 +199,22 @@ decimal-only most (d ∷ ds) e w =
     let both = and-true (is-digit d) (all-of is-digit ds) e in
     let b = digit-bounds d (both .0) in
     by-less
-    48
+    zero-digit
     d
     (λ l.
-    decimal-after (0 * 10 + (d - 48)) ds (omega arith) (both .1)
-    ∙ ap (λ l. l ++ ds) (decimal-small (0 * 10 + (d - 48)) (omega arith))
-    ∙ (let s : 48 + (0 * 10 + (d - 48)) ≡ d = omega arith in ap (λ k. k ∷ ds) s))
+    decimal-after (0 * 10 + (d - zero-digit)) ds (omega arith) (both .1)
+    ∙ ap (λ l. l ++ ds) (decimal-small (0 * 10 + (d - zero-digit)) (omega arith))
+    ∙ (let s : zero-digit + (0 * 10 + (d - zero-digit)) ≡ d = omega arith in ap (λ k. k ∷ ds) s))
     (λ l.
-    let z : d ≡ 48 = omega arith in
+    let z : d ≡ zero-digit = omega arith in
     let one : eqb (suc (length ds)) 1 ≡ true =
     by-test
     (eqb (suc (length ds)) 1)
     (λ t. t)
-    (λ f. clash (and-true (leb 1 (suc (length ds)) && leb (suc (length ds)) most) (eqb (suc (length ds)) 1 || not (eqb d 48)) w .1) (rw (f, z) refl))
+    (λ f. clash (and-true (leb 1 (suc (length ds)) && leb (suc (length ds)) most) (eqb (suc (length ds)) 1 || not (eqb d zero-digit)) w .1) (rw (f, z) refl))
     in
     alone ds (let o = eqb-true (suc (length ds)) 1 one in omega arith) z)
   where
-    alone : (ds : List ℕ) → length ds ≡ 0 → d ≡ 48 → decimal (value (d ∷ ds)) ≡ d ∷ ds
+    alone : (ds : List ℕ) → length ds ≡ 0 → d ≡ zero-digit → decimal (value (d ∷ ds)) ≡ d ∷ ds
     alone [] l z = rw z (decimal-small 0 (omega arith))
     alone (x ∷ xs) l z = absurd (omega arith)

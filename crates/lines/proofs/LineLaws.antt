@@ -144,7 +144,7 @@ begins-line (k ∷ ks) (b ∷ bs) rest e = ap (λ t. eqb k b && t) (begins-line 
 
 leading-line : (bytes rest : List ℕ) → leading-digits (bytes ++ line-feed ∷ rest) ≡ leading-digits bytes
 unfolding leading-digits
-leading-line [] rest = rw (digit-below 10 (omega arith)) refl
+leading-line [] rest = rw (digit-below line-feed (omega arith)) refl
 leading-line (b ∷ bs) rest = ap (λ l. cond (is-digit b) (b ∷ l) []) (leading-line bs rest)
 
 feed-next : (bytes r s : List ℕ) → begins (line-feed ∷ []) (bytes ++ line-feed ∷ r) ≡ begins (line-feed ∷ []) (bytes ++ line-feed ∷ s)

@@ -10,7 +10,7 @@ use lib.Seq.{drop-cons}
 use borrow.Author.Tests.{le-leb, lt-leb, ne-eqb}
 use Rattle.rules.proofs.Sequences.{by-test, by-less, clash}
 use Rattle.lines.specs.declared.line.Digits.{Digits}
-use Rattle.lines.specs.Figures.{line-feed, is-digit}
+use Rattle.lines.specs.Figures.{zero-digit, line-feed, is-digit}
 use Rattle.lines.specs.Lines.{begins, leading-digits, well-written, is-number}
 use Rattle.lines.specs.Parts.{ScanIs, NumberIs}
 
@@ -64,11 +64,11 @@ module _ {text : List ℕ} {most : ℕ} {d : Digits} (scan : ScanIs text most d)
   unfolding begins
   feed-missing h l = no-feed h (rw (drop-of-length-le text l) refl)
 
-  pub other-byte : d .count ≤ most → d .count < length text → (getD text (d .count) 0 ≡ 10 → ⊥) → NumberIs text most none
+  pub other-byte : d .count ≤ most → d .count < length text → (getD text (d .count) 0 ≡ line-feed → ⊥) → NumberIs text most none
   unfolding begins
-  other-byte h l n = no-feed h (rw (drop-cons text (d .count) 0 l, ne-eqb 10 (getD text (d .count) 0) (λ e. n (sym e))) refl)
+  other-byte h l n = no-feed h (rw (drop-cons text (d .count) 0 l, ne-eqb line-feed (getD text (d .count) 0) (λ e. n (sym e))) refl)
 
-  pub leading-zero : 2 ≤ d .count → d .count ≤ most → getD text 0 0 ≡ 48 → NumberIs text most none
+  pub leading-zero : 2 ≤ d .count → d .count ≤ most → getD text 0 0 ≡ zero-digit → NumberIs text most none
   unfolding well-written
   leading-zero more h z =
       let l = counted h in
@@ -84,8 +84,8 @@ module _ {text : List ℕ} {most : ℕ} {d : Digits} (scan : ScanIs text most d)
 
   -- a number, one digit or more without a leading zero, and its line feed
   pub well :
-      1 ≤ d .count → d .count ≤ most → d .count < length text → getD text (d .count) 0 ≡ 10 →
-      (eqb (d .count) 1 || not (eqb (getD text 0 0) 48)) ≡ true → NumberIs text most d
+      1 ≤ d .count → d .count ≤ most → d .count < length text → getD text (d .count) 0 ≡ line-feed →
+      (eqb (d .count) 1 || not (eqb (getD text 0 0) zero-digit)) ≡ true → NumberIs text most d
   unfolding well-written begins
   well some h l feed lead =
       let c = counted h in

@@ -7,7 +7,8 @@ use native.Mathlib.Omega.{arith}
 use native.Mathlib.Numerals.{add-one}
 use lib.ListN.{length, getD, take, drop, set, length-append, length-take, length-drop, length-set, take-append-drop}
 use lib.Seq.{paste, paste-zero, paste-suc, take-length, take-suc, take-at, drop-drop, set-at, drop-append-add}
-use Rattle.lines.specs.Figures.{decimal, line-feed, field}
+use Rattle.lines.specs.Figures.{zero-digit, decimal, line-feed, field}
+use Rattle.lines.specs.Parts.{word-digits}
 use Rattle.lines.specs.Put.{overwritten, Puts}
 use Rattle.lines.proofs.Decimals.{decimal-small, decimal-step, decimal-some, word-length, small-length, step-length}
 
@@ -135,7 +136,7 @@ module _ {n rest count : ℕ} (w : WidthSoFar n rest count) where
   pub counted-all : rest < 10 → count ≡ length (decimal n)
   counted-all h = let a = w .in-all in let s = small-length rest h in omega arith
 
-  pub count-bound : n < 2 ^ 64 → count ≤ 20
+  pub count-bound : n < 2 ^ 64 → count ≤ word-digits
   count-bound h = let a = w .in-all in let s = decimal-some rest in let l = word-length n h in omega arith
 
 -- The digits of a number from the last to the first: those of `rest` are still to come.
@@ -167,32 +168,32 @@ module _ {old : List ℕ} {at n : ℕ} {new : List ℕ} {i rest : ℕ} (w : Digi
       let g = w .long in
       (omega arith, omega arith)
 
-  pub digits-more : 10 ≤ rest → Digits old at n (set new (i - 1) (48 + rest % 10)) (i - 1) (rest / 10)
+  pub digits-more : 10 ≤ rest → Digits old at n (set new (i - 1) (zero-digit + rest % 10)) (i - 1) (rest / 10)
   digits-more h =
       let place = digit-place in
       let g = w .long in
       let one : i ≡ suc (i - 1) = omega arith in
       record {
-        behind = (48 + rest % 10) ∷ w .behind;
-        number-is = w .number-is ∙ rw (decimal-step rest h) (append-assoc (decimal (rest / 10)) ((48 + rest % 10) ∷ []) (w .behind));
+        behind = (zero-digit + rest % 10) ∷ w .behind;
+        number-is = w .number-is ∙ rw (decimal-step rest h) (append-assoc (decimal (rest / 10)) ((zero-digit + rest % 10) ∷ []) (w .behind));
         place-is = let p = w .place-is in let s = step-length rest h in omega arith;
         new-is =
-            ap (λ l. set l (i - 1) (48 + rest % 10)) (w .new-is ∙ ap (λ k. overwritten old k (w .behind)) one)
-            ∙ back-one old (i - 1) (48 + rest % 10) (w .behind) (omega arith);
-        long = length-set new (i - 1) (48 + rest % 10) ∙ w .long;
+            ap (λ l. set l (i - 1) (zero-digit + rest % 10)) (w .new-is ∙ ap (λ k. overwritten old k (w .behind)) one)
+            ∙ back-one old (i - 1) (zero-digit + rest % 10) (w .behind) (omega arith);
+        long = length-set new (i - 1) (zero-digit + rest % 10) ∙ w .long;
       }
 
-  pub digits-all : rest < 10 → Puts old at (decimal n) (set new at (48 + rest)) (at + length (decimal n))
+  pub digits-all : rest < 10 → Puts old at (decimal n) (set new at (zero-digit + rest)) (at + length (decimal n))
   digits-all h =
       let small = decimal-small rest h in
       let place = digit-place in
       let g = w .long in
-      let whole : decimal n ≡ (48 + rest) ∷ w .behind = w .number-is ∙ ap (λ l. l ++ w .behind) small in
+      let whole : decimal n ≡ (zero-digit + rest) ∷ w .behind = w .number-is ∙ ap (λ l. l ++ w .behind) small in
       let one : i ≡ suc at = let p = w .place-is in let s = ap length small in omega arith in
       record {
         new-is =
-            ap (λ l. set l at (48 + rest)) (w .new-is ∙ ap (λ k. overwritten old k (w .behind)) one)
-            ∙ back-one old at (48 + rest) (w .behind) (omega arith)
+            ap (λ l. set l at (zero-digit + rest)) (w .new-is ∙ ap (λ k. overwritten old k (w .behind)) one)
+            ∙ back-one old at (zero-digit + rest) (w .behind) (omega arith)
             ∙ ap (overwritten old at) (sym whole);
         next-is = refl;
       }

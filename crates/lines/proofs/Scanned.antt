@@ -8,7 +8,7 @@ use native.Mathlib.Omega.{arith}
 use native.Mathlib.Numerals.{add-one}
 use lib.ListN.{length, getD, drop, drop-of-length-le}
 use lib.Seq.{drop-cons}
-use Rattle.lines.specs.Figures.{is-digit, value-after, value}
+use Rattle.lines.specs.Figures.{zero-digit, is-digit, value-after, value}
 use Rattle.lines.specs.Lines.{leading-digits}
 use Rattle.lines.specs.Parts.{most-scanned, ScanIs}
 use Rattle.lines.proofs.Digits.{digit-yes}
@@ -25,7 +25,8 @@ pub scanned-none : (text : List ℕ) (most : ℕ) → Scanned text most 0 0
 scanned-none text most = record { long = omega arith; says = refl; bound = omega arith; at-most = omega arith; in-text = omega arith }
 
 module _ {text : List ℕ} {most v i : ℕ} (w : Scanned text most v i) (m : i ≤ most) where
-  pub scanned-more : i < length text → 48 ≤ getD text i 0 → getD text i 0 < 58 → Scanned text most (v * 10 + (getD text i 0 - 48)) (i + 1)
+  pub scanned-more :
+      i < length text → zero-digit ≤ getD text i 0 → getD text i 0 < zero-digit + 10 → Scanned text most (v * 10 + (getD text i 0 - zero-digit)) (i + 1)
   unfolding leading-digits value-after
   scanned-more h low high =
       let next : leading-digits (drop i text) ≡ getD text i 0 ∷ leading-digits (drop (suc i) text) = rw (drop-cons text i 0 h, digit-yes _ low high) refl in

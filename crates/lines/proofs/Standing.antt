@@ -68,7 +68,7 @@ stands-after front bytes rest =
 -- digits and a line feed lead with the digits
 pub leading-own : (ds rest : List ℕ) → all-of is-digit ds ≡ true → leading-digits (ds ++ line-feed ∷ rest) ≡ ds
 unfolding leading-digits
-leading-own [] rest e = rw (digit-below 10 (omega arith)) refl
+leading-own [] rest e = rw (digit-below line-feed (omega arith)) refl
 leading-own (d ∷ ds) rest e =
     let both = and-true (is-digit d) (all-of is-digit ds) e in
     rw (both .0) (ap (λ l. d ∷ l) (leading-own ds rest (both .1)))

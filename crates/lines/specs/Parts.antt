@@ -11,6 +11,10 @@ use Rattle.lines.specs.Figures.{value, field}
 use Rattle.lines.specs.Lines.{leading-digits, is-number}
 use Rattle.lines.specs.DueLines.{key-bytes}
 
+-- the digits of the largest 64-bit number
+abbrev pub word-digits : ℕ
+word-digits = 20
+
 -- numbers of so many digits and one more fit a word
 abbrev pub most-scanned : ℕ
 most-scanned = 18

@@ -2,7 +2,7 @@
 ghost use mathlib.Core.Path.{_≡_};
 ghost use Prim.Native.Nat.{_+_, _≤_};
 ghost use lib.ListN.{length};
-ghost use Rattle.lines.specs.Figures.{decimal, field};
+ghost use Rattle.lines.specs.Figures.{zero-digit, decimal, field};
 ghost use Rattle.lines.specs.Put.{Puts};
 
 // How many digits a number has.
@@ -20,7 +20,7 @@ pub fn width(n: u64) -> usize
 
 fn digit(n: u64) -> u8
     requires { ⌜ n ≤ 9 ⌝ }
-    ensures { λ r. ⌜ r ≡ 48 + n ⌝ }
+    ensures { λ r. ⌜ r ≡ zero-digit + n ⌝ }
 {
     (48 + n) as u8
 }
@@ -62,6 +62,6 @@ pub fn put_field(output: &mut [u8], at: usize, key: &[u8], n: u64) -> usize
 {
     let start = put_bytes(output, at, key);
     let end = put_figure(output, start, n);
-    output[end] = 10;
+    output[end] = b'\n';
     end + 1
 }

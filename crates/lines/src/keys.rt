@@ -98,6 +98,6 @@ pub fn put_line(output: &mut [u8], at: usize, key: Key, figure: u64) -> usize
 {
     let start = put_key(output, at, key);
     let end = put_figure(output, start, figure);
-    output[end] = 10;
+    output[end] = b'\n';
     end + 1
 }

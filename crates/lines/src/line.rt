@@ -104,19 +104,19 @@ fn scan(text: &[u8], most: usize) -> Digits
             };
         }
         let byte = text[count];
-        if byte < 48 {
+        if byte < b'0' {
             return Digits {
                 count: count,
                 value: value,
             };
         }
-        if 58 <= byte {
+        if b'9' < byte {
             return Digits {
                 count: count,
                 value: value,
             };
         }
-        value = value * 10 + wide(byte - 48);
+        value = value * 10 + wide(byte - b'0');
         count += 1;
     }
     Digits {
@@ -142,13 +142,13 @@ pub fn number(text: &[u8], most: usize) -> Digits
     if text.len() <= count {
         return none;
     }
-    if text[count] != 10 {
+    if text[count] != b'\n' {
         return none;
     }
     if count == 1 {
         return digits;
     }
-    if text[0] == 48 {
+    if text[0] == b'0' {
         return none;
     }
     digits

@@ -1,7 +1,7 @@
 -- A whole trial: from what its messages found, the start that is sought and the row that is made, it is the rules' trial.
 use mathlib.Core.Path.{_≡_, sym, ap, ap₂, _∙_}
 use mathlib.Core.List.{List, [], _∷_, _++_}
-use Prim.Native.Nat.{ℕ, suc, _+_, _*_, _^_, _≤_, _<_}
+use Prim.Native.Nat.{ℕ, suc, _+_, _*_, _≤_, _<_}
 use native.Mathlib.Omega.{arith}
 use native.Mathlib.Numerals.{add-one}
 use lib.ListN.{take, set, length-set}
@@ -80,16 +80,13 @@ module _
       ask-own = record { sound = ask .inputs .sound; there = attempt-there; run-at-most = rw run-is (ask .run-at-most); start-below = start-below }
 
       module _ (own : Row) (made : own ≡ task-booking s j t m start) where
-        pub own-figures : (count < most-messages + 1) × (cost + own .cost ≤ (most-messages + 1) * largest-cost) × (own .finish < 2 ^ 41)
+        pub own-figures : (count < most-messages + 1) × (cost + own .cost ≤ (most-messages + 1) * largest-cost)
         own-figures =
             let few = found .count-at-most in
             let most = ask .inputs .order .messages in
             let spent = found .cost-at-most in
-            let run = ask .run-at-most in
-            let below = start-below in
             let price : own .cost ≤ largest-cost = rw (made, ← run-is) (task-cost-at-most ask-own) in
-            let ends : own .finish ≡ start + run-time j t m = ap (λ row. row .finish) made in
-            (omega arith, omega arith, omega arith)
+            (omega arith, omega arith)
 
         abbrev it : Attempt
         it = record { rows = set rows count own; count = suc count; cost = cost + own .cost; start = start; finish = own .finish }
@@ -103,7 +100,6 @@ module _
               count-at-most = omega arith;
               cost-at-most = figures .1;
               start-below = start-below;
-              finish-below = figures .2;
             }
 
         attempt-trial :

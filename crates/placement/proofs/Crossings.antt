@@ -2,7 +2,7 @@
 use mathlib.Core.Path.{_≡_, refl, sym, ap, _∙_, subst}
 use mathlib.Core.Bool.{true, false, not}
 use mathlib.Core.List.{List, [], _∷_, _++_, append-nil, List·Memᴰ, Memᴰ·append-left}
-use Prim.Native.Nat.{ℕ, suc, _≤_, _<_}
+use Prim.Native.Nat.{ℕ, suc, _≤_, _<_, _*_}
 use native.Mathlib.Nat.{mul-le-mul, one-le-mul}
 use native.Mathlib.Omega.{arith}
 use lib.Dec.{eqb, ltb}
@@ -15,7 +15,7 @@ use Rattle.rules.specs.declared.Setup.{Setup}
 use Rattle.rules.specs.Sequences.{cons-if}
 use Rattle.rules.specs.Words.{messages-of, largest-volume, link-time}
 use Rattle.rules.specs.Placing.{transfer, crosses, into}
-use Rattle.rules.specs.Bounds.{Sound, Between}
+use Rattle.rules.specs.Bounds.{Sound, Between, largest-link-time}
 use Rattle.rules.specs.Demands.{InRange}
 use Rattle.rules.proofs.Sequences.{by-test, keep-append, keep-mem, mem-keep, and-true}
 use Rattle.rules.proofs.Pairs.{Pairwise, pairwise-keep, pairwise-front}
@@ -70,7 +70,7 @@ crosses-where msg a b p =
 -- a message that crosses needs some time, and no more than the largest
 pub transfer-takes :
     (s : Setup) (msg : Message) (a b : ℕ) → Sound s → Between 1 (s .table .machines) a → Between 1 (s .table .machines) b → msg .volume ≤ largest-volume →
-    crosses msg a b ≡ true → (1 ≤ transfer s msg a b) × (transfer s msg a b ≤ 1_000_000)
+    crosses msg a b ≡ true → (1 ≤ transfer s msg a b) × (transfer s msg a b ≤ largest-link-time * largest-volume)
 transfer-takes s msg a b sound from to volume c =
     let both = and-true (not (eqb a b)) (ltb 0 (msg .volume)) c in
     let apart = eqb-false a b (not-true (eqb a b) (both .0)) in

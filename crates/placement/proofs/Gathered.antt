@@ -440,7 +440,7 @@ module _
 
         pub input-fits :
             msg .receiver ≡ t → crosses msg a m ≡ true → (row : Row) → IsInput row →
-            (n < room) × Numbered (row .holder) × (count < most-messages + 1) × (cost + row .cost < 2 ^ 63)
+            (n < room) × Numbered (row .holder) × (count < most-messages + 1) × (cost + row .cost < 2 ^ 64)
         input-fits e c row is =
             let few = g .count-at-most in
             let most = ask .order .messages in

@@ -30,12 +30,12 @@ link-not-machine m a b on ends e = omega arith
 link-parts : (a b c d : ℕ) → HasLink a b → HasLink c d → resource-number (link a b) ≡ resource-number (link c d) → (a ≡ c) × (b ≡ d)
 link-parts a b c d p q e = (omega arith, omega arith)
 
-pub key-injective : (g h : Holder) → Numbered g → Numbered h → resource-number (held-by g) ≡ resource-number (held-by h) → held-by g ≡ held-by h
+pub code-injective : (g h : Holder) → Numbered g → Numbered h → resource-number (held-by g) ≡ resource-number (held-by h) → held-by g ≡ held-by h
 unfolding held-by
-key-injective (TaskOn m t) (TaskOn n u) (on-machine p) (on-machine q) e = ap machine e
-key-injective (TaskOn m t) (MessageOn a b x y) (on-machine p) (on-link q) e = absurd (link-not-machine m a b p q e)
-key-injective (MessageOn a b x y) (TaskOn m t) (on-link p) (on-machine q) e = absurd (link-not-machine m a b q p (sym e))
-key-injective (MessageOn a b x y) (MessageOn c d v w) (on-link p) (on-link q) e =
+code-injective (TaskOn m t) (TaskOn n u) (on-machine p) (on-machine q) e = ap machine e
+code-injective (TaskOn m t) (MessageOn a b x y) (on-machine p) (on-link q) e = absurd (link-not-machine m a b p q e)
+code-injective (MessageOn a b x y) (TaskOn m t) (on-link p) (on-machine q) e = absurd (link-not-machine m a b q p (sym e))
+code-injective (MessageOn a b x y) (MessageOn c d v w) (on-link p) (on-link q) e =
     let parts = link-parts a b c d p q e in rw (parts .0, parts .1) refl
 
 -- two links have equal numbers exactly if their machines are equal in turn
@@ -56,13 +56,13 @@ link-same a b c d p q =
     ∙ sym h)
 
 -- equal numbers are the rules' test of equal resources
-pub key-same : (g h : Holder) → Numbered g → Numbered h → eqb (resource-number (held-by g)) (resource-number (held-by h)) ≡ same (held-by g) (held-by h)
+pub code-same : (g h : Holder) → Numbered g → Numbered h → eqb (resource-number (held-by g)) (resource-number (held-by h)) ≡ same (held-by g) (held-by h)
 unfolding held-by same
-key-same (TaskOn m t) (TaskOn n u) (on-machine p) (on-machine q) = refl
-key-same (TaskOn m t) (MessageOn a b x y) (on-machine p) (on-link q) = ne-eqb m (resource-number (link a b)) (link-not-machine m a b p q)
-key-same (MessageOn a b x y) (TaskOn m t) (on-link p) (on-machine q) =
+code-same (TaskOn m t) (TaskOn n u) (on-machine p) (on-machine q) = refl
+code-same (TaskOn m t) (MessageOn a b x y) (on-machine p) (on-link q) = ne-eqb m (resource-number (link a b)) (link-not-machine m a b p q)
+code-same (MessageOn a b x y) (TaskOn m t) (on-link p) (on-machine q) =
     ne-eqb (resource-number (link a b)) m (λ e. link-not-machine m a b q p (sym e))
-key-same (MessageOn a b x y) (MessageOn c d v w) (on-link p) (on-link q) = link-same a b c d p q
+code-same (MessageOn a b x y) (MessageOn c d v w) (on-link p) (on-link q) = link-same a b c d p q
 
 -- Spans.
 
@@ -98,7 +98,7 @@ spans-mirror rows resources starts finishes n m numbered h listed =
           m .resources-are i below,
           m .starts-are i below,
           m .finishes-are i below,
-          key-same (row .holder) h (numbered row (getD-mem rows i no-row (omega arith))) listed,
+          code-same (row .holder) h (numbered row (getD-mem rows i no-row (omega arith))) listed,
         )
         (ap (λ l. l ++ cons-if (same (resource row) (held-by h)) (span row) []) (go i (omega arith)))
 

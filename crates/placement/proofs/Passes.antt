@@ -257,14 +257,14 @@ at-own rs starts finishes k len tick i e = rw (eq-eqb (getD rs i 0) k e) refl
 
 -- looking for the next entry, and for the one before
 
-pub record Looked (key : ℕ) (rs : List ℕ) (count from i : ℕ) : Type 0 where
+pub record Looked (code : ℕ) (rs : List ℕ) (count from i : ℕ) : Type 0 where
   pub on : from ≤ i
   pub within : i ≤ count
-  pub none : (j : ℕ) → from ≤ j → j < i → getD rs j 0 ≡ key → ⊥
+  pub none : (j : ℕ) → from ≤ j → j < i → getD rs j 0 ≡ code → ⊥
 
-pub looked-more : (key : ℕ) (rs : List ℕ) (count from i : ℕ) → i < count → Looked key rs count from i → (getD rs i 0 ≡ key → ⊥) →
-    Looked key rs count from (i + 1)
-looked-more key rs count from i h w e =
+pub looked-more : (code : ℕ) (rs : List ℕ) (count from i : ℕ) → i < count → Looked code rs count from i → (getD rs i 0 ≡ code → ⊥) →
+    Looked code rs count from (i + 1)
+looked-more code rs count from i h w e =
     let on = w .on in
     record {
       on = omega arith;
@@ -273,14 +273,14 @@ looked-more key rs count from i h w e =
           (λ t. w .none j a (leb-false i j t) q);
     }
 
-pub record LookedBack (key : ℕ) (rs : List ℕ) (from below i : ℕ) : Type 0 where
+pub record LookedBack (code : ℕ) (rs : List ℕ) (from below i : ℕ) : Type 0 where
   pub down : from ≤ i
   pub within : i ≤ below
-  pub none : (j : ℕ) → i ≤ j → j < below → getD rs j 0 ≡ key → ⊥
+  pub none : (j : ℕ) → i ≤ j → j < below → getD rs j 0 ≡ code → ⊥
 
-pub back-looked-more : (key : ℕ) (rs : List ℕ) (from below i : ℕ) → from < i → LookedBack key rs from below i → (getD rs (i - 1) 0 ≡ key → ⊥) →
-    LookedBack key rs from below (i - 1)
-back-looked-more key rs from below i h w e =
+pub back-looked-more : (code : ℕ) (rs : List ℕ) (from below i : ℕ) → from < i → LookedBack code rs from below i → (getD rs (i - 1) 0 ≡ code → ⊥) →
+    LookedBack code rs from below (i - 1)
+back-looked-more code rs from below i h w e =
     let within = w .within in
     record {
       down = omega arith;

@@ -26,13 +26,13 @@ use Rattle.placement.specs.Threads.{resource-bound, nodes, ThreadOn, Thr
 
 -- Steps.
 
-module _ {key : ℕ} {rs : List ℕ} {held count from next : ℕ} (thread : NextOf key rs held from next) where
+module _ {code : ℕ} {rs : List ℕ} {held count from next : ℕ} (thread : NextOf code rs held from next) where
   -- an entry of the thread is the next of all
-  pub threaded-next : held ≤ count → next < held → NextOf key rs count from next
+  pub threaded-next : held ≤ count → next < held → NextOf code rs count from next
   threaded-next within there = record { on = thread .on; within = omega arith; none = thread .none; here = λ h. thread .here there }
 
   -- past the end of the thread, the next of the others is
-  pub own-next : {r : ℕ} → held ≤ next → NextOf key rs count held r → NextOf key rs count from r
+  pub own-next : {r : ℕ} → held ≤ next → NextOf code rs count held r → NextOf code rs count from r
   own-next end own =
       let on = thread .on in
       let within = thread .within in
@@ -45,23 +45,23 @@ module _ {key : ℕ} {rs : List ℕ} {held count from next : ℕ} (thread : Next
       }
 
 -- what a thread says at an entry of the resource
-pub next-at : {key : ℕ} {rs nexts : List ℕ} {held at : ℕ} → ThreadOn rs held nexts → at < held → getD rs at 0 ≡ key →
-    NextOf key rs held (at + 1) (getD nexts (resource-bound + at) 0)
-next-at {key} {rs} {nexts} {held} {at} thread there here =
+pub next-at : {code : ℕ} {rs nexts : List ℕ} {held at : ℕ} → ThreadOn rs held nexts → at < held → getD rs at 0 ≡ code →
+    NextOf code rs held (at + 1) (getD nexts (resource-bound + at) 0)
+next-at {code} {rs} {nexts} {held} {at} thread there here =
     subst (λ (k : ℕ). NextOf k rs held (at + 1) (getD nexts (resource-bound + at) 0)) here (thread .next at there)
 
-pub last-at : {key : ℕ} {rs backs : List ℕ} {held at : ℕ} → ThreadBack rs held backs → at < held → getD rs at 0 ≡ key →
-    AfterLastOf key rs 0 at (getD backs (resource-bound + at) 0)
-last-at {key} {rs} {backs} {held} {at} thread there here =
+pub last-at : {code : ℕ} {rs backs : List ℕ} {held at : ℕ} → ThreadBack rs held backs → at < held → getD rs at 0 ≡ code →
+    AfterLastOf code rs 0 at (getD backs (resource-bound + at) 0)
+last-at {code} {rs} {backs} {held} {at} thread there here =
     subst (λ (k : ℕ). AfterLastOf k rs 0 at (getD backs (resource-bound + at) 0)) here (thread .back at there)
 
-module _ {key : ℕ} {rs : List ℕ} {held at left : ℕ} (own : AfterLastOf key rs held at left) where
+module _ {code : ℕ} {rs : List ℕ} {held at left : ℕ} (own : AfterLastOf code rs held at left) where
   -- an entry past the held ones is the last of all
-  pub own-last : held < left → AfterLastOf key rs 0 at left
+  pub own-last : held < left → AfterLastOf code rs 0 at left
   own-last past = record { down = omega arith; within = own .within; none = own .none; here = λ h. own .here past }
 
   -- where there is none, the last of the thread is
-  pub threaded-last : {r : ℕ} → left ≤ held → AfterLastOf key rs 0 held r → AfterLastOf key rs 0 at r
+  pub threaded-last : {r : ℕ} → left ≤ held → AfterLastOf code rs 0 held r → AfterLastOf code rs 0 at r
   threaded-last end thread =
       let down = own .down in
       let within = own .within in
@@ -75,28 +75,28 @@ module _ {key : ℕ} {rs : List ℕ} {held at left : ℕ} (own : AfterLastOf key
 
 -- Making: two places are set, that of the entry and that of its resource.
 
-module _ (thread : List ℕ) (long : length thread ≡ nodes) (key at old new : ℕ) (known : key < resource-bound) (few : at < row-limit) where
+module _ (thread : List ℕ) (long : length thread ≡ nodes) (code at old new : ℕ) (known : code < resource-bound) (few : at < row-limit) where
   abbrev linked : List ℕ
-  linked = set (set thread (resource-bound + at) old) key new
+  linked = set (set thread (resource-bound + at) old) code new
 
   linked-long : length linked ≡ nodes
-  linked-long = length-set (set thread (resource-bound + at) old) key new ∙ length-set thread (resource-bound + at) old ∙ long
+  linked-long = length-set (set thread (resource-bound + at) old) code new ∙ length-set thread (resource-bound + at) old ∙ long
 
   -- what holds of the new value at the resource's place, of the old one at the entry's, and of the others as they were, holds at every place
   linked-case :
-      (P : ℕ → Type 0) (n : ℕ) → (n ≡ key → P new) → (n ≡ resource-bound + at → P old) →
-      ((n ≡ key → ⊥) → (n ≡ resource-bound + at → ⊥) → P (getD thread n 0)) → P (getD linked n 0)
-  linked-case P n of-key of-entry of-other =
+      (P : ℕ → Type 0) (n : ℕ) → (n ≡ code → P new) → (n ≡ resource-bound + at → P old) →
+      ((n ≡ code → ⊥) → (n ≡ resource-bound + at → ⊥) → P (getD thread n 0)) → P (getD linked n 0)
+  linked-case P n of-code of-entry of-other =
       let within = length-set thread (resource-bound + at) old in
       by-test
-      (eqb n key)
+      (eqb n code)
       (λ t.
-      let same = eqb-true n key t in
-      rw (same, getD-set-same (set thread (resource-bound + at) old) key new 0 (omega (arith, long))) (of-key same))
+      let same = eqb-true n code t in
+      rw (same, getD-set-same (set thread (resource-bound + at) old) code new 0 (omega (arith, long))) (of-code same))
       (λ t.
-      let apart = eqb-false n key t in
+      let apart = eqb-false n code t in
       rw
-      (getD-set-other (set thread (resource-bound + at) old) key n new 0 apart)
+      (getD-set-other (set thread (resource-bound + at) old) code n new 0 apart)
       (by-test
       (eqb n (resource-bound + at))
       (λ u. let same = eqb-true n (resource-bound + at) u in rw (same, getD-set-same thread (resource-bound + at) old 0 (omega (arith, long))) (of-entry same))
@@ -106,14 +106,14 @@ module _ (thread : List ℕ) (long : length thread ≡ nodes) (key at old new : 
 pub record MadeOn (rs : List ℕ) (count : ℕ) (nexts : List ℕ) (left : ℕ) : Type 0 where
   pub long : length nexts ≡ nodes
   pub within : left ≤ count
-  pub first : (key : ℕ) → key < resource-bound → NextOf key rs count left (getD nexts key 0)
+  pub first : (code : ℕ) → code < resource-bound → NextOf code rs count left (getD nexts code 0)
   pub next : (i : ℕ) → left ≤ i → i < count → NextOf (getD rs i 0) rs count (i + 1) (getD nexts (resource-bound + i) 0)
 
 -- an entry more below, of the resource or of another
-next-here : {key : ℕ} {rs : List ℕ} {count i : ℕ} → i < count → getD rs i 0 ≡ key → NextOf key rs count i i
+next-here : {code : ℕ} {rs : List ℕ} {count i : ℕ} → i < count → getD rs i 0 ≡ code → NextOf code rs count i i
 next-here h e = record { on = omega arith; within = omega arith; none = λ j a b. absurd (omega arith); here = λ _. e }
 
-next-below : {key : ℕ} {rs : List ℕ} {count i r : ℕ} → NextOf key rs count (i + 1) r → (getD rs i 0 ≡ key → ⊥) → NextOf key rs count i r
+next-below : {code : ℕ} {rs : List ℕ} {count i r : ℕ} → NextOf code rs count (i + 1) r → (getD rs i 0 ≡ code → ⊥) → NextOf code rs count i r
 next-below {rs = rs} {i = i} next other =
     let on = next .on in
     record {
@@ -129,7 +129,7 @@ made-on-none rs count =
     record {
       long = length-replicate nodes count;
       within = omega arith;
-      first = λ key h. rw (getD-replicate nodes key count 0 (omega arith))
+      first = λ code h. rw (getD-replicate nodes code count 0 (omega arith))
           (record { on = omega arith; within = omega arith; none = λ j a b. absurd (omega arith); here = λ q. absurd (omega arith) });
       next = λ i a b. absurd (omega arith);
     }
@@ -140,13 +140,13 @@ made-on-more :
 made-on-more {rs} {count} {nexts} {left} ask made =
     let within = made .within in
     let few = ask .few in
-    let key = getD rs left 0 in
+    let code = getD rs left 0 in
     let known = ask .known left (omega arith) in
-    let old = getD nexts key 0 in
+    let old = getD nexts code 0 in
     let long = made .long in
-    let case = linked-case nexts long key left old left known (omega arith) in
+    let case = linked-case nexts long code left old left known (omega arith) in
     record {
-      long = linked-long nexts long key left old left known (omega arith);
+      long = linked-long nexts long code left old left known (omega arith);
       within = omega arith;
       first =
           λ k h.
@@ -162,7 +162,7 @@ made-on-more {rs} {count} {nexts} {left} ask made =
           (λ x. NextOf (getD rs i 0) rs count (i + 1) x)
           (resource-bound + i)
           (λ e. absurd (omega (arith, known)))
-          (λ e. let same : i ≡ left = omega arith in rw same (made .first key known))
+          (λ e. let same : i ≡ left = omega arith in rw same (made .first code known))
           (λ _ other. made .next i (let apart : i ≡ left → ⊥ = λ e. other (omega arith) in omega (arith, apart)) b);
     }
 
@@ -177,15 +177,15 @@ made-on-down {rs} {count} {nexts} {left} ask made more =
 pub record MadeBack (rs : List ℕ) (count : ℕ) (backs : List ℕ) (i : ℕ) : Type 0 where
   pub long : length backs ≡ nodes
   pub within : i ≤ count
-  pub last : (key : ℕ) → key < resource-bound → AfterLastOf key rs 0 i (getD backs key 0)
+  pub last : (code : ℕ) → code < resource-bound → AfterLastOf code rs 0 i (getD backs code 0)
   pub back : (j : ℕ) → j < i → AfterLastOf (getD rs j 0) rs 0 j (getD backs (resource-bound + j) 0)
 
-last-here : {key : ℕ} {rs : List ℕ} (i : ℕ) → getD rs i 0 ≡ key → AfterLastOf key rs 0 (i + 1) (i + 1)
+last-here : {code : ℕ} {rs : List ℕ} (i : ℕ) → getD rs i 0 ≡ code → AfterLastOf code rs 0 (i + 1) (i + 1)
 last-here {rs = rs} i e =
     let same : i ≡ i + 1 - 1 = omega arith in
     record { down = omega arith; within = omega arith; none = λ j a b. absurd (omega arith); here = λ _. ap (λ n. getD rs n 0) (sym same) ∙ e }
 
-last-above : {key : ℕ} {rs : List ℕ} {i r : ℕ} → AfterLastOf key rs 0 i r → (getD rs i 0 ≡ key → ⊥) → AfterLastOf key rs 0 (i + 1) r
+last-above : {code : ℕ} {rs : List ℕ} {i r : ℕ} → AfterLastOf code rs 0 i r → (getD rs i 0 ≡ code → ⊥) → AfterLastOf code rs 0 (i + 1) r
 last-above {rs = rs} {i = i} last other =
     let within = last .within in
     record {
@@ -201,7 +201,7 @@ made-back-none rs count =
     record {
       long = length-replicate {A = ℕ} nodes 0;
       within = omega arith;
-      last = λ key h. rw (getD-replicate {A = ℕ} nodes key 0 0 (omega arith))
+      last = λ code h. rw (getD-replicate {A = ℕ} nodes code 0 0 (omega arith))
           (record { down = omega arith; within = omega arith; none = λ j a b. absurd (omega arith); here = λ q. absurd (omega arith) });
       back = λ j b. absurd (omega arith);
     }
@@ -211,13 +211,13 @@ pub made-back-more :
     MadeBack rs count (set (set backs (resource-bound + i) (getD backs (getD rs i 0) 0)) (getD rs i 0) (i + 1)) (i + 1)
 made-back-more {rs} {count} {backs} {i} ask made more =
     let few = ask .few in
-    let key = getD rs i 0 in
+    let code = getD rs i 0 in
     let known = ask .known i more in
-    let old = getD backs key 0 in
+    let old = getD backs code 0 in
     let long = made .long in
-    let case = linked-case backs long key i old (i + 1) known (omega arith) in
+    let case = linked-case backs long code i old (i + 1) known (omega arith) in
     record {
-      long = linked-long backs long key i old (i + 1) known (omega arith);
+      long = linked-long backs long code i old (i + 1) known (omega arith);
       within = omega arith;
       last =
           λ k h.
@@ -233,14 +233,14 @@ made-back-more {rs} {count} {backs} {i} ask made more =
           (λ x. AfterLastOf (getD rs j 0) rs 0 j x)
           (resource-bound + j)
           (λ e. absurd (omega (arith, known)))
-          (λ e. let same : j ≡ i = omega arith in rw same (made .last key known))
+          (λ e. let same : j ≡ i = omega arith in rw same (made .last code known))
           (λ _ other. made .back j (let apart : j ≡ i → ⊥ = λ e. other (omega arith) in omega (arith, apart)));
     }
 
 -- Threads read the resources of the held entries alone.
 
 module _ {rs rs′ : List ℕ} {held : ℕ} (same : (i : ℕ) → i < held → getD rs′ i 0 ≡ getD rs i 0) where
-  next-same : {key from r : ℕ} → NextOf key rs held from r → NextOf key rs′ held from r
+  next-same : {code from r : ℕ} → NextOf code rs held from r → NextOf code rs′ held from r
   next-same next =
       let most = next .within in
       record {
@@ -250,7 +250,7 @@ module _ {rs rs′ : List ℕ} {held : ℕ} (same : (i : ℕ) → i < held → g
         here = λ h. same _ h ∙ next .here h;
       }
 
-  last-same : {key below r : ℕ} → below ≤ held → AfterLastOf key rs 0 below r → AfterLastOf key rs′ 0 below r
+  last-same : {code below r : ℕ} → below ≤ held → AfterLastOf code rs 0 below r → AfterLastOf code rs′ 0 below r
   last-same h last =
       let most = last .within in
       record {
@@ -266,11 +266,11 @@ module _ {rs rs′ : List ℕ} {held : ℕ} (same : (i : ℕ) → i < held → g
         few = threaded .few;
         within = h;
         on = record {
-          first = λ key k. next-same (threaded .on .first key k);
+          first = λ code k. next-same (threaded .on .first code k);
           next = λ i k. next-same (next-at (threaded .on) k (sym (same i k)));
         };
         back = record {
-          last = λ key k. last-same (omega arith) (threaded .back .last key k);
+          last = λ code k. last-same (omega arith) (threaded .back .last code k);
           back = λ i k. last-same (omega arith) (last-at (threaded .back) k (sym (same i k)));
         };
       }
@@ -279,7 +279,7 @@ pub made-on-all : {rs : List ℕ} {count : ℕ} {nexts : List ℕ} {left : ℕ} 
 made-on-all {rs} {count} {nexts} {left} made end =
     let none : left ≡ 0 = omega arith in
     record {
-      first = λ key h. subst (λ (from : ℕ). NextOf key rs count from (getD nexts key 0)) none (made .first key h);
+      first = λ code h. subst (λ (from : ℕ). NextOf code rs count from (getD nexts code 0)) none (made .first code h);
       next = λ i h. made .next i (omega arith) h;
     }
 
@@ -288,7 +288,7 @@ made-back-all {rs} {count} {backs} {i} made end =
     let within = made .within in
     let all : i ≡ count = omega arith in
     record {
-      last = λ key h. subst (λ (below : ℕ). AfterLastOf key rs 0 below (getD backs key 0)) all (made .last key h);
+      last = λ code h. subst (λ (below : ℕ). AfterLastOf code rs 0 below (getD backs code 0)) all (made .last code h);
       back = λ j h. made .back j (omega arith);
     }
 
@@ -299,11 +299,11 @@ pub threaded-kept :
 threaded-kept threaded same more = let within = threaded .within in threaded-same (λ i h. same .resources-same i (omega arith)) threaded (omega arith)
 
 -- what a pass asks, of what a search asks
-module _ {key : ℕ} {rs nexts backs : List ℕ} {held count : ℕ} (ask : (key < resource-bound) × Threaded rs nexts backs held count) where
-  pub on-along : AskAlong key held × (held ≤ count) × ThreadOn rs held nexts
+module _ {code : ℕ} {rs nexts backs : List ℕ} {held count : ℕ} (ask : (code < resource-bound) × Threaded rs nexts backs held count) where
+  pub on-along : AskAlong code held × (held ≤ count) × ThreadOn rs held nexts
   on-along = (record { few = ask .1 .few; known = ask .0 }, ask .1 .within, ask .1 .on)
 
-  pub back-along : AskAlong key held × (held ≤ count) × ThreadBack rs held backs
+  pub back-along : AskAlong code held × (held ≤ count) × ThreadBack rs held backs
   back-along = (record { few = ask .1 .few; known = ask .0 }, ask .1 .within, ask .1 .back)
 
 -- the numbers of machines and links are known

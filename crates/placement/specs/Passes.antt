@@ -28,15 +28,15 @@ pub record AskEntry (count from : ℕ) : Type 0 where
   pub few : count ≤ room
 
 -- none from a place on is of the resource, up to one that is or the count
-pub record NextOf (key : ℕ) (resources : List ℕ) (count from r : ℕ) : Type 0 where
+pub record NextOf (code : ℕ) (resources : List ℕ) (count from r : ℕ) : Type 0 where
   pub on : from ≤ r
   pub within : r ≤ count
-  pub none : (j : ℕ) → from ≤ j → j < r → getD resources j 0 ≡ key → ⊥
-  pub here : r < count → getD resources r 0 ≡ key
+  pub none : (j : ℕ) → from ≤ j → j < r → getD resources j 0 ≡ code → ⊥
+  pub here : r < count → getD resources r 0 ≡ code
 
 -- none below a place is of the resource, down to just past one that is or to a place further down
-pub record AfterLastOf (key : ℕ) (resources : List ℕ) (from below r : ℕ) : Type 0 where
+pub record AfterLastOf (code : ℕ) (resources : List ℕ) (from below r : ℕ) : Type 0 where
   pub down : from ≤ r
   pub within : r ≤ below
-  pub none : (j : ℕ) → r ≤ j → j < below → getD resources j 0 ≡ key → ⊥
-  pub here : from < r → getD resources (r - 1) 0 ≡ key
+  pub none : (j : ℕ) → r ≤ j → j < below → getD resources j 0 ≡ code → ⊥
+  pub here : from < r → getD resources (r - 1) 0 ≡ code

@@ -3,7 +3,7 @@ use mathlib.Core.Path.{_≡_}
 use mathlib.Core.Bool.{true, false}
 use mathlib.Core.List.{List, [], _++_, List·Memᴰ}
 use mathlib.Core.Option.{Option, none, some}
-use Prim.Native.Nat.{ℕ, _+_, _*_, _-_, _^_, _≤_, _<_}
+use Prim.Native.Nat.{ℕ, _+_, _*_, _-_, _≤_, _<_}
 use lib.ListN.{length, getD, take}
 use Rattle.rules.specs.declared.Row.{Row}
 use Rattle.rules.specs.declared.Message.{Message}
@@ -134,7 +134,6 @@ pub record AttemptBounds (it : Attempt) : Type 0 where
   pub count-at-most : it .count ≤ most-messages + 1
   pub cost-at-most : it .cost ≤ (most-messages + 1) * largest-cost
   pub start-below : it .start < tick-bound
-  pub finish-below : it .finish < 2 ^ 41
 
 pub record AttemptIs
     (s : Setup)

@@ -2,6 +2,7 @@
 mod bookings;
 mod choice;
 pub mod columns;
+mod entries;
 mod order;
 pub mod place;
 mod search;

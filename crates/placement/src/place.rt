@@ -5,7 +5,7 @@ use crate::OWN;
 use crate::SPANS;
 use crate::Standing;
 use crate::choice::choose;
-use crate::columns::put;
+use crate::entries::put;
 use crate::order::next_ready;
 use crate::threads::thread_back;
 use crate::threads::thread_on;

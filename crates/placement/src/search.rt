@@ -24,13 +24,13 @@ fn past(start: u64, finish: u64, tick: u64, len: u64) -> u64
 }
 
 // The first entry of the resource from a place on, or the count.
-fn next_of(resources: &[u64; SPANS], count: usize, key: u64, from: usize) -> usize
+fn next_of(resources: &[u64; SPANS], count: usize, code: u64, from: usize) -> usize
     requires { ⌜ AskEntry count from ⌝ }
-    ensures { λ r. ⌜ NextOf key (now (resources .entry)) count from r ⌝ }
+    ensures { λ r. ⌜ NextOf code (now (resources .entry)) count from r ⌝ }
 {
     let mut i = from;
     while i < count {
-        if resources[i] == key {
+        if resources[i] == code {
             return i;
         }
         i += 1;
@@ -39,13 +39,13 @@ fn next_of(resources: &[u64; SPANS], count: usize, key: u64, from: usize) -> usi
 }
 
 // The place after the last entry of the resource from a place on and below another, or the first place.
-fn after_last_of(resources: &[u64; SPANS], key: u64, from: usize, below: usize) -> usize
+fn after_last_of(resources: &[u64; SPANS], code: u64, from: usize, below: usize) -> usize
     requires { ⌜ (from ≤ below) × (below ≤ room) ⌝ }
-    ensures { λ r. ⌜ AfterLastOf key (now (resources .entry)) from below r ⌝ }
+    ensures { λ r. ⌜ AfterLastOf code (now (resources .entry)) from below r ⌝ }
 {
     let mut left = below;
     while from < left {
-        if resources[left - 1] == key {
+        if resources[left - 1] == code {
             return left;
         }
         left -= 1;
@@ -58,16 +58,16 @@ fn threaded_or_own(
     resources: &[u64; SPANS],
     held: usize,
     count: usize,
-    key: u64,
+    code: u64,
     next: usize,
 ) -> usize
     requires { ⌜ AskEntry count held ⌝ }
-    ensures { λ r. ⌜ ((from : ℕ) → NextOf key (now (resources .entry)) held from next → NextOf key (now (resources .entry)) count from r) ⌝ }
+    ensures { λ r. ⌜ ((from : ℕ) → NextOf code (now (resources .entry)) held from next → NextOf code (now (resources .entry)) count from r) ⌝ }
 {
     if next < held {
         return next;
     }
-    next_of(resources, count, key, held)
+    next_of(resources, count, code, held)
 }
 
 // The entry of the resource that follows one, or the count.
@@ -76,16 +76,16 @@ fn following<'a>(
     nexts: &'a [usize; NODES],
     held: usize,
     count: usize,
-    key: u64,
+    code: u64,
     at: usize,
 ) -> usize
-    requires { ⌜ AskFollowing key (now resources) held count at × ThreadOn (now resources) held (now nexts) ⌝ }
-    ensures { λ r. ⌜ NextOf key (now (resources .entry)) count (at + 1) r ⌝ }
+    requires { ⌜ AskFollowing code (now resources) held count at × ThreadOn (now resources) held (now nexts) ⌝ }
+    ensures { λ r. ⌜ NextOf code (now (resources .entry)) count (at + 1) r ⌝ }
 {
     if held <= at {
-        return next_of(resources, count, key, at + 1);
+        return next_of(resources, count, code, at + 1);
     }
-    threaded_or_own(resources, held, count, key, nexts[RESOURCES + at])
+    threaded_or_own(resources, held, count, code, nexts[RESOURCES + at])
 }
 
 // The place after the entry of the resource that precedes a place, or 0.
@@ -93,20 +93,20 @@ fn preceding<'a>(
     resources: &'a [u64; SPANS],
     backs: &'a [usize; NODES],
     held: usize,
-    key: u64,
+    code: u64,
     at: usize,
 ) -> usize
-    requires { ⌜ AskPreceding key (now resources) held at × ThreadBack (now resources) held (now backs) ⌝ }
-    ensures { λ r. ⌜ AfterLastOf key (now (resources .entry)) 0 at r ⌝ }
+    requires { ⌜ AskPreceding code (now resources) held at × ThreadBack (now resources) held (now backs) ⌝ }
+    ensures { λ r. ⌜ AfterLastOf code (now (resources .entry)) 0 at r ⌝ }
 {
     if at < held {
         return backs[RESOURCES + at];
     }
-    let left = after_last_of(resources, key, held, at);
+    let left = after_last_of(resources, code, held, at);
     if held < left {
         return left;
     }
-    backs[key as usize]
+    backs[code as usize]
 }
 
 // One pass over the spans of the resource: the tick moves past each that it meets.
@@ -117,19 +117,19 @@ fn sweep<'a>(
     nexts: &'a [usize; NODES],
     held: usize,
     count: usize,
-    key: u64,
+    code: u64,
     from: u64,
     len: u64,
 ) -> u64
     requires { ⌜ Searchable (now starts) (now finishes) count from len ⌝ }
-    requires { ⌜ AskAlong key held × (held ≤ count) × ThreadOn (now resources) held (now nexts) ⌝ }
-    ensures { λ r. ⌜ r ≡ swept len (spans-of key (now (resources .entry)) (now (starts .entry)) (now (finishes .entry)) count) from ⌝ }
+    requires { ⌜ AskAlong code held × (held ≤ count) × ThreadOn (now resources) held (now nexts) ⌝ }
+    ensures { λ r. ⌜ r ≡ swept len (spans-of code (now (resources .entry)) (now (starts .entry)) (now (finishes .entry)) count) from ⌝ }
 {
     let mut tick = from;
-    let mut i = threaded_or_own(resources, held, count, key, nexts[key as usize]);
+    let mut i = threaded_or_own(resources, held, count, code, nexts[code as usize]);
     while i < count {
         tick = past(starts[i], finishes[i], tick, len);
-        i = following(resources, nexts, held, count, key, i);
+        i = following(resources, nexts, held, count, code, i);
     }
     tick
 }
@@ -142,20 +142,20 @@ fn sweep_back<'a>(
     backs: &'a [usize; NODES],
     held: usize,
     count: usize,
-    key: u64,
+    code: u64,
     from: u64,
     len: u64,
 ) -> u64
     requires { ⌜ Searchable (now starts) (now finishes) count from len ⌝ }
-    requires { ⌜ AskAlong key held × (held ≤ count) × ThreadBack (now resources) held (now backs) ⌝ }
-    ensures { λ r. ⌜ r ≡ swept-back len (spans-of key (now (resources .entry)) (now (starts .entry)) (now (finishes .entry)) count) from ⌝ }
+    requires { ⌜ AskAlong code held × (held ≤ count) × ThreadBack (now resources) held (now backs) ⌝ }
+    ensures { λ r. ⌜ r ≡ swept-back len (spans-of code (now (resources .entry)) (now (starts .entry)) (now (finishes .entry)) count) from ⌝ }
 {
     let mut tick = from;
-    let mut left = preceding(resources, backs, held, key, count);
+    let mut left = preceding(resources, backs, held, code, count);
     while 0 < left {
         left -= 1;
         tick = past(starts[left], finishes[left], tick, len);
-        left = preceding(resources, backs, held, key, left);
+        left = preceding(resources, backs, held, code, left);
     }
     tick
 }
@@ -170,13 +170,13 @@ pub fn least_free<'a>(
     backs: &'a [usize; NODES],
     held: usize,
     count: usize,
-    key: u64,
+    code: u64,
     from: u64,
     len: u64,
 ) -> u64
     requires { ⌜ Searchable (now starts) (now finishes) count from len ⌝ }
-    requires { ⌜ (key < resource-bound) × Threaded (now resources) (now nexts) (now backs) held count ⌝ }
-    ensures { λ r. ⌜ r ≡ least-free from len (spans-of key (now (resources .entry)) (now (starts .entry)) (now (finishes .entry)) count) ⌝ }
+    requires { ⌜ (code < resource-bound) × Threaded (now resources) (now nexts) (now backs) held count ⌝ }
+    ensures { λ r. ⌜ r ≡ least-free from len (spans-of code (now (resources .entry)) (now (starts .entry)) (now (finishes .entry)) count) ⌝ }
 {
     let mut tick = from;
     let mut last = sweep(
@@ -186,7 +186,7 @@ pub fn least_free<'a>(
         nexts,
         held,
         count,
-        key,
+        code,
         tick,
         len,
     );
@@ -198,7 +198,7 @@ pub fn least_free<'a>(
             backs,
             held,
             count,
-            key,
+            code,
             last,
             len,
         );
@@ -212,7 +212,7 @@ pub fn least_free<'a>(
             nexts,
             held,
             count,
-            key,
+            code,
             tick,
             len,
         );

@@ -14,10 +14,10 @@ pub fn thread_on<'a>(resources: &'a [u64; SPANS], count: usize, nexts: &'a mut [
     let mut left = count;
     while 0 < left {
         left -= 1;
-        let key = resources[left] as usize;
-        let next = nexts[key];
+        let code = resources[left] as usize;
+        let next = nexts[code];
         nexts[RESOURCES + left] = next;
-        nexts[key] = left;
+        nexts[code] = left;
     }
 }
 
@@ -28,10 +28,10 @@ pub fn thread_back<'a>(resources: &'a [u64; SPANS], count: usize, backs: &'a mut
 {
     let mut i: usize = 0;
     while i < count {
-        let key = resources[i] as usize;
-        let back = backs[key];
+        let code = resources[i] as usize;
+        let back = backs[code];
         backs[RESOURCES + i] = back;
         i += 1;
-        backs[key] = i;
+        backs[code] = i;
     }
 }

@@ -7,7 +7,7 @@ use crate::TRIED;
 use crate::bookings::message_row;
 use crate::bookings::task_row;
 use crate::bookings::transfer_of;
-use crate::columns::put;
+use crate::entries::put;
 use crate::search::least_free;
 use rules::Job;
 use rules::Message;
@@ -72,7 +72,7 @@ fn try_message<'a>(
     ensures { λ r. ⌜ InputIs s job msg a b done (now (resources .entry)) (now (starts .entry)) (now (finishes .entry)) count r ⌝ }
 {
     let len = transfer_of(s, msg, a, b);
-    let key = link_number(a, b);
+    let code = link_number(a, b);
     let start = least_free(
         resources,
         starts,
@@ -81,7 +81,7 @@ fn try_message<'a>(
         backs,
         held,
         count,
-        key,
+        code,
         done,
         len,
     );

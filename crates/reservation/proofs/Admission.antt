@@ -53,8 +53,8 @@ module _ {r : Register} {found : Placement} (ask : AskAdmit r found) where
         blank = λ k a b. getD-set-other rows (r .count + i) k row no-row (omega arith) ∙ f .blank k (omega arith) b;
       }
 
-  -- the total of at most 256 rows stays far below what a word holds
-  pub total-fits : r .total + found .cost < 2 ^ 63
+  -- the total of so many rows fits a word
+  pub total-fits : r .total + found .cost < 2 ^ 64
   total-fits =
       let bounded = ask .valid .bounded in
       let all = costs-at-most (r .setup) (take (r .count) (r .rows)) (bounded .rows) in

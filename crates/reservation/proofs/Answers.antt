@@ -1,7 +1,7 @@
 -- The answer to a submission, by the first test that refuses, and what the register is left as.
 use mathlib.Core.Path.{_≡_, refl, ap, _∙_}
 use mathlib.Core.Bool.{true, false}
-use mathlib.Core.List.{List, [], _∷_}
+use mathlib.Core.List.{List}
 use mathlib.Core.Option.{none, some}
 use Prim.Native.Nat.{ℕ, _+_, _<_, _≤_}
 use lib.Dec.{ltb}
@@ -14,43 +14,28 @@ use Rattle.rules.specs.Words.{State, View, view, row-limit}
 use Rattle.rules.specs.Placing.{booked, late}
 use Rattle.rules.specs.Withdrawing.{admit}
 use Rattle.rules.specs.Refusals.{refuse-if, refusal, admission, first-infeasible, missed, found, placing, submit-tests, submit-answer, submits, settle, step}
-use Rattle.rules.specs.Demands.{FirstRefusal, here, later, InRange}
+use Rattle.rules.specs.Demands.{here, InRange}
+use Rattle.rules.proofs.Tests.{held-passed, feasible-passed, placing-passed}
 use Rattle.rules.proofs.Admitted.{Admitted, admits, answer-passed}
 use Rattle.feasibility.proofs.Firsts.{first-answers}
 
--- none of 1 to 5 refuses, so that 6, 7 or 8 may be the first
 module _ (s : Setup) (v : View) (j : Job) (range : InRange s j) (free : v .held (j .number) ≡ false) where
-  past-five :
-      {n t : ℕ} →
-      FirstRefusal
-      n
-      t
-      (record { number = 6; refuses = first-infeasible s (v .calendar .clock) j }
-      ∷ record { number = 7; refuses = missed (placing s v j) }
-      ∷ record { number = 8; refuses = refuse-if (ltb row-limit (length (v .rows) + length (found (placing s v j)))) }
-      ∷ []) →
-      FirstRefusal n t (submit-tests s v j)
-  unfolding submit-tests
-  past-five f =
-      later
-      (ap refuse-if (range .number))
-      (later (ap refuse-if (range .counts)) (later (ap refuse-if (range .figures)) (later (ap refuse-if (range .messages)) (later (ap refuse-if free) f))))
-
   pub answer-6 : {t : ℕ} → first-infeasible s (v .calendar .clock) j ≡ some t → submit-answer s v j ≡ refusal 6 t
-  answer-6 e = first-answers s v j (past-five (here refl e))
+  unfolding submit-tests
+  answer-6 e = first-answers s v j (held-passed s v j range free .first (here refl e))
 
   module _ (feasible : first-infeasible s (v .calendar .clock) j ≡ none) where
     pub answer-7 : {t : ℕ} → placing s v j ≡ late t → submit-answer s v j ≡ refusal 7 t
-    unfolding missed
-    answer-7 e = first-answers s v j (past-five (later feasible (here refl (ap missed e))))
+    unfolding missed submit-tests
+    answer-7 e = first-answers s v j (feasible-passed s v j range free feasible .first (here refl (ap missed e)))
 
     module _ (rows : List Row) (is-placed : placing s v j ≡ booked rows) where
       pub answer-8 : row-limit < length (v .rows) + length rows → submit-answer s v j ≡ refusal 8 0
-      unfolding missed found
+      unfolding missed found submit-tests
       answer-8 h =
           let over : ltb row-limit (length (v .rows) + length (found (placing s v j))) ≡ true
           = rw is-placed (lt-ltb row-limit (length (v .rows) + length rows) h) in
-          first-answers s v j (past-five (later feasible (later (ap missed is-placed) (here refl (ap refuse-if over)))))
+          first-answers s v j (placing-passed s v j range free feasible (ap missed is-placed) .first (here refl (ap refuse-if over)))
 
       pub answer-0 : length (v .rows) + length rows ≤ row-limit → submit-answer s v j ≡ admission rows
       unfolding submit-answer found

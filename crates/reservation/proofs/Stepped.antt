@@ -20,10 +20,11 @@ use Rattle.rules.specs.Placing.{no-row, costs, booked}
 use Rattle.rules.specs.Withdrawing.{admit, withdraw, advance, remove, ended}
 use Rattle.rules.specs.Refusals.{refuse-if, refusal, accepted, first-infeasible, placing, found, submit-tests, withdraw-tests, withdraw-answer}
 use Rattle.rules.specs.Refusals.{advance-tests, advance-answer, Call, submits, withdraws, advances, settle, step}
-use Rattle.rules.specs.Demands.{here, later, passes, end}
+use Rattle.rules.specs.Demands.{here, end}
 use Rattle.rules.specs.Bounds.{Bounded}
 use Rattle.rules.proofs.Sequences.{by-test, keep-all, keep-none}
 use Rattle.rules.proofs.Demand1.{judged-first, judged-passed}
+use Rattle.rules.proofs.Tests.{LeftAfter, all-left, passed, in-range-passed}
 use Rattle.rules.proofs.Struck.{step-still}
 use Rattle.rules.proofs.Bounds.{bounded-step, scheduling-figure}
 use Rattle.feasibility.specs.Tests.{EarlyIs}
@@ -121,12 +122,7 @@ module _ {r : Register} (valid : Valid r) {j : Job} {n : ℕ} (early : EarlyIs (
       valid
       (submits j)
       (refusal 5 0)
-      (first-answers
-      (r .setup)
-      (view (state-of r))
-      j
-      (later (ap refuse-if (range .number)) (later (ap refuse-if (range .counts))
-      (later (ap refuse-if (range .figures)) (later (ap refuse-if (range .messages)) (here refl (ap refuse-if e)))))))
+      (first-answers (r .setup) (view (state-of r)) j (in-range-passed (r .setup) (view (state-of r)) j range .first (here refl (ap refuse-if e))))
       (λ x. omega arith)
 
   module _ (z : n ≡ 0) (free : view (state-of r) .held (j .number) ≡ false) where
@@ -255,15 +251,18 @@ module _ (s : Setup) (st : State) where
   unfolding step settle withdraw-answer withdraw-tests
   withdraw-9 n a = judged-first _ (here refl (ap (λ b. refuse-if (not b)) a))
 
-  pub withdraw-10 : (n : ℕ) → view st .held n ≡ true → any-of (λ row. leb (row .start) (st .calendar .clock)) (view st .rows-of n) ≡ true →
-      step s st (withdraws n) .answer ≡ refusal 10 0
-  unfolding step settle withdraw-answer withdraw-tests
-  withdraw-10 n a b = judged-first _ (later (ap (λ b. refuse-if (not b)) a) (here refl (ap refuse-if b)))
+  module _ (n : ℕ) (held : view st .held n ≡ true) where
+    held-passed : LeftAfter 9 (withdraw-tests (view st) n)
+    unfolding withdraw-tests
+    held-passed = passed all-left (ap (λ b. refuse-if (not b)) held)
 
-  pub withdraw-0 : (n : ℕ) → view st .held n ≡ true → any-of (λ row. leb (row .start) (st .calendar .clock)) (view st .rows-of n) ≡ false →
-      step s st (withdraws n) .answer ≡ refusal 0 0
-  unfolding step settle withdraw-answer withdraw-tests
-  withdraw-0 n a b = judged-passed _ (passes (ap (λ b. refuse-if (not b)) a) (passes (ap refuse-if b) end))
+    pub withdraw-10 : any-of (λ row. leb (row .start) (st .calendar .clock)) (view st .rows-of n) ≡ true → step s st (withdraws n) .answer ≡ refusal 10 0
+    unfolding step settle withdraw-answer withdraw-tests
+    withdraw-10 b = judged-first _ (held-passed .first (here refl (ap refuse-if b)))
+
+    pub withdraw-0 : any-of (λ row. leb (row .start) (st .calendar .clock)) (view st .rows-of n) ≡ false → step s st (withdraws n) .answer ≡ refusal 0 0
+    unfolding step settle withdraw-answer withdraw-tests
+    withdraw-0 b = judged-passed _ (passed held-passed (ap refuse-if b) .clear end)
 
   pub withdrawn-left : (n : ℕ) → step s st (withdraws n) .answer ≡ refusal 0 0 → step s st (withdraws n) .left ≡ withdraw st n
   unfolding step settle
@@ -273,13 +272,18 @@ module _ (s : Setup) (st : State) where
   unfolding step settle advance-answer advance-tests
   advance-11 tick h = judged-first _ (here refl (ap refuse-if (lt-ltb tick (st .calendar .clock) h)))
 
-  pub advance-12 : (tick : ℕ) → st .calendar .clock ≤ tick → horizon < tick → step s st (advances tick) .answer ≡ refusal 12 0
-  unfolding step settle advance-answer advance-tests
-  advance-12 tick h k = judged-first _ (later (ap refuse-if (le-ltb tick (st .calendar .clock) h)) (here refl (ap refuse-if (lt-ltb horizon tick k))))
+  module _ (tick : ℕ) (ahead : st .calendar .clock ≤ tick) where
+    ahead-passed : LeftAfter 11 (advance-tests (view st) tick)
+    unfolding advance-tests
+    ahead-passed = passed all-left (ap refuse-if (le-ltb tick (st .calendar .clock) ahead))
 
-  pub advance-0 : (tick : ℕ) → st .calendar .clock ≤ tick → tick ≤ horizon → step s st (advances tick) .answer ≡ refusal 0 0
-  unfolding step settle advance-answer advance-tests
-  advance-0 tick h k = judged-passed _ (passes (ap refuse-if (le-ltb tick (st .calendar .clock) h)) (passes (ap refuse-if (le-ltb horizon tick k)) end))
+    pub advance-12 : horizon < tick → step s st (advances tick) .answer ≡ refusal 12 0
+    unfolding step settle advance-answer advance-tests
+    advance-12 over = judged-first _ (ahead-passed .first (here refl (ap refuse-if (lt-ltb horizon tick over))))
+
+    pub advance-0 : tick ≤ horizon → step s st (advances tick) .answer ≡ refusal 0 0
+    unfolding step settle advance-answer advance-tests
+    advance-0 within = judged-passed _ (passed ahead-passed (ap refuse-if (le-ltb horizon tick within)) .clear end)
 
   pub advanced-left : (tick : ℕ) → step s st (advances tick) .answer ≡ refusal 0 0 → step s st (advances tick) .left ≡ advance st tick
   unfolding step settle

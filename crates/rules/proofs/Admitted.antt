@@ -1,5 +1,5 @@
 -- What an accepted submission has shown: that none of its tests refuses it, each said by itself and found by its number.
-use mathlib.Core.Path.{_≡_, refl, ap}
+use mathlib.Core.Path.{_≡_, refl}
 use mathlib.Core.Bool.{Bool, true, false, cond}
 use mathlib.Core.List.{List, [], _∷_}
 use mathlib.Core.Option.{Option, none}
@@ -17,6 +17,7 @@ use Rattle.rules.specs.Refusals.{submit-tests, submit-answer}
 use Rattle.rules.specs.Demands.{NoRefusal, end, passes, InRange}
 use Rattle.rules.proofs.Sequences.{by-test}
 use Rattle.rules.proofs.Demand1.{judged-passed, submit-answered}
+use Rattle.rules.proofs.Tests.{rows-passed}
 
 pub record Admitted (s : Setup) (v : View) (j : Job) : Type 0 where
   pub in-range : InRange s j
@@ -53,45 +54,30 @@ module _ (s : Setup) (v : View) (j : Job) where
   pub admitted : submit-answer s v j .number ≡ 0 → Admitted s v j
   unfolding submit-tests
   admitted e =
-      let passed : (n : ℕ) → said-by n (submit-tests s v j) ≡ none = none-refuses (submit-answered s v j .passed .0 e) in
+      let silent : (n : ℕ) → said-by n (submit-tests s v j) ≡ none = none-refuses (submit-answered s v j .passed .0 e) in
       record {
         in-range = record {
-          number = refuse-none (outside 1 largest-number (j .number)) (passed 1);
-          counts = refuse-none (miscounted j) (passed 2);
-          figures = refuse-none (out-of-range s j) (passed 3);
-          messages = refuse-none (bad-messages j) (passed 4);
+          number = refuse-none (outside 1 largest-number (j .number)) (silent 1);
+          counts = refuse-none (miscounted j) (silent 2);
+          figures = refuse-none (out-of-range s j) (silent 3);
+          messages = refuse-none (bad-messages j) (silent 4);
         };
-        not-held = refuse-none (v .held (j .number)) (passed 5);
-        feasible = passed 6;
-        rows-found = not-missed (placing s v j) (passed 7);
+        not-held = refuse-none (v .held (j .number)) (silent 5);
+        feasible = silent 6;
+        rows-found = not-missed (placing s v j) (silent 7);
         fits =
             ltb-false
             row-limit
             (length (v .rows) + length (found (placing s v j)))
-            (refuse-none (ltb row-limit (length (v .rows) + length (found (placing s v j)))) (passed 8));
+            (refuse-none (ltb row-limit (length (v .rows) + length (found (placing s v j)))) (silent 8));
       }
 
   pub admits : Admitted s v j → submit-answer s v j .number ≡ 0
   unfolding submit-tests
   admits a =
-      submit-answered s v j
-      .passed
-      .1
-      (passes
-      (ap refuse-if (a .in-range .number))
-      (passes
-      (ap refuse-if (a .in-range .counts))
-      (passes
-      (ap refuse-if (a .in-range .figures))
-      (passes
-      (ap refuse-if (a .in-range .messages))
-      (passes
-      (ap refuse-if (a .not-held))
-      (passes
-      (a .feasible)
-      (passes
-      (booked-not-missed (placing s v j) (a .rows-found))
-      (passes (ap refuse-if (le-ltb row-limit (length (v .rows) + length (found (placing s v j))) (a .fits))) end))))))))
+      let in-time = booked-not-missed (placing s v j) (a .rows-found) in
+      let fits = le-ltb row-limit (length (v .rows) + length (found (placing s v j))) (a .fits) in
+      submit-answered s v j .passed .1 (rows-passed s v j (a .in-range) (a .not-held) (a .feasible) in-time fits .clear end)
 
   -- the answer of an accepted submission
   pub answer-passed : submit-answer s v j .number ≡ 0 → submit-answer s v j ≡ admission (found (placing s v j))

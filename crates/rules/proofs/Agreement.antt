@@ -106,21 +106,21 @@ module _ {st : State} {jn : Journal} (ag : Agree st jn) where
   rows-kept : (p : Row → Bool) (q : Entry → Bool) → Uniform p q (jn .entries) → keep p (st .rows) ≡ rows-in (keep q (jn .entries))
   rows-kept p q h = ap (keep p) (ag .rows) ∙ keep-rows p q (jn .entries) h
 
-  numbered : (n : ℕ) → Uniform (of-job n) (entry-of n) (jn .entries)
-  numbered n e m row k = ap (λ i. eqb i n) (ag .carried e m row k)
+  by-job : (n : ℕ) → Uniform (of-job n) (entry-of n) (jn .entries)
+  by-job n e m row k = ap (λ i. eqb i n) (ag .carried e m row k)
 
   pub views-agree : view st ≡ journal-view jn
   views-agree = λ i. record {
     calendar = ag .calendar i;
     rows = ag .rows i;
-    held = λ n. (ap (any-of (of-job n)) (ag .rows) ∙ any-rows _ _ (jn .entries) (numbered n) (ag .nonempty)) i;
-    rows-of = λ n. rows-kept (of-job n) (entry-of n) (numbered n) i;
+    held = λ n. (ap (any-of (of-job n)) (ag .rows) ∙ any-rows _ _ (jn .entries) (by-job n) (ag .nonempty)) i;
+    rows-of = λ n. rows-kept (of-job n) (entry-of n) (by-job n) i;
   }
 
   -- the rows that carry an entry's number are the entry's
   pub rows-for-entry : (e : Entry) → List·Memᴰ e (jn .entries) → keep (of-job (e .job .number)) (st .rows) ≡ e .rows
   rows-for-entry e m =
-      rows-kept _ _ (numbered (e .job .number))
+      rows-kept _ _ (by-job (e .job .number))
       ∙ ap rows-in (keep-alone (λ d. d .job .number) (ag .distinct) m)
       ∙ append-nil (e .rows)
 
@@ -210,7 +210,7 @@ module _ (s : Setup)
       settle-alike (ap (λ u. submit-answer s u j) (views-agree ag)) ag
       (λ e. rw (views-agree ag) (agree-enter ag j (found (placing s v j)) (admitted s v j e .not-held) (carries v j) (filled v j e)))
   agree-step st jn (withdraws n) ag =
-      settle-alike (ap (λ v. withdraw-answer v n) (views-agree ag)) ag (λ e. agree-remove ag (of-job n) (entry-of n) (numbered ag n))
+      settle-alike (ap (λ v. withdraw-answer v n) (views-agree ag)) ag (λ e. agree-remove ag (of-job n) (entry-of n) (by-job ag n))
   agree-step st jn (advances tick) ag =
       settle-alike (ap (λ v. advance-answer v tick) (views-agree ag)) ag
       (λ e.

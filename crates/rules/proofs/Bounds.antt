@@ -54,8 +54,8 @@ module _ (s : Setup) (j : Job) (range : InRange s j) where
   number-in-range : Between 1 largest-number (j .number)
   number-in-range = let r = in-between 1 largest-number (j .number) (range .number) in record { first = r .0; last = r .1 }
 
-  pub task-listed : {t : ℕ} → IsTask j t → Between 1 most-tasks t
-  task-listed is = let count = in-range-count s j range in record { first = is .first; last = omega arith }
+  pub listed-in-range : {t : ℕ} → IsTask j t → Between 1 most-tasks t
+  listed-in-range is = let count = in-range-count s j range in record { first = is .first; last = omega arith }
 
   -- the scheduling time is within the largest, and no task has a figure out of range
   job-figures : (ltb largest-time (j .scheduling) ≡ false) × (any-of (task-out-of-range s j) (task-numbers j) ≡ false)
@@ -124,7 +124,7 @@ module _ (s : Setup) (j : Job) (range : InRange s j) where
         (t m start : ℕ) → IsTask j t → Between 1 (s .table .machines) m → 0 < run-time j t m → start + run-time j t m ≤ horizon →
         RowInRange s (task-booking s j t m start)
     task-in-range t m start is on able ends = record {
-      holder = task on (task-listed is);
+      holder = task on (listed-in-range is);
       job = number-in-range;
       lasts = omega arith;
       ends = ends;
@@ -141,7 +141,7 @@ module _ (s : Setup) (j : Job) (range : InRange s j) where
         let time : 1 ≤ transfer s msg a b = one-le-mul takes (ltb-true 0 (msg .volume) (both .1)) in
         let tasks = in-range-ends s j range msg n in
         record {
-          holder = message from to (task-listed (tasks .0)) (task-listed (tasks .1)) apart (in-range-differing s j range msg n);
+          holder = message from to (listed-in-range (tasks .0)) (listed-in-range (tasks .1)) apart (in-range-differing s j range msg n);
           job = number-in-range;
           lasts = omega arith;
           ends = ends;
@@ -202,9 +202,9 @@ module _ (s : Setup) (j : Job) (range : InRange s j) where
 -- The steps.
 
 -- a clock move that is not refused stays within the horizon
-moved-in-range : (s : Setup) (st : State) (tick : ℕ) → step s st (advances tick) .answer .number ≡ 0 → tick ≤ horizon
+advanced-in-range : (s : Setup) (st : State) (tick : ℕ) → step s st (advances tick) .answer .number ≡ 0 → tick ≤ horizon
 unfolding advance-tests
-moved-in-range s st tick e =
+advanced-in-range s st tick e =
     ltb-false horizon tick (refuse-none (ltb horizon tick) (none-refuses (demand-1 s st (advances tick) .answered .passed .0 e) 12))
 
 module _ (s : Setup) where
@@ -264,7 +264,7 @@ module _ (s : Setup) where
     bounded-step st (advances tick) b =
         settle-keeps (Bounded s) (advance-answer (view st) tick) b λ e.
         bounded-remove _ (with-calendar (with-clock tick (st .calendar)) st)
-        (record { clock = moved-in-range s st tick e; count = b .count; rows = b .rows; apart = b .apart; total = b .total })
+        (record { clock = advanced-in-range s st tick e; count = b .count; rows = b .rows; apart = b .apart; total = b .total })
 
     pub bounded-after : (calls : List Call) → Bounded s (after (step s) fresh calls)
     bounded-after calls = after-keeps (Bounded s) (step s) bounded-step calls fresh bounded-fresh

@@ -103,17 +103,17 @@ submit-answered s v j = with-numbers _ (submit-tests s v j) (numbers-for (submit
 pub demand-1 : (s : Setup) (st : State) (c : Call) → Demand1 s st c
 unfolding step settle submit-answer withdraw-answer advance-answer submit-tests withdraw-tests advance-tests
 demand-1 s st (submits j) = record {
-  numbered = refl;
+  numbers = refl;
   answered = submit-answered s (view st) j;
   untouched = settled (submit-answer s (view st) j) st _;
 }
 demand-1 s st (withdraws n) = record {
-  numbered = refl;
+  numbers = refl;
   answered = with-numbers _ (withdraw-tests (view st) n) (numbers-for (withdraws n)) refl refl refl;
   untouched = settled (withdraw-answer (view st) n) st _;
 }
 demand-1 s st (advances tick) = record {
-  numbered = refl;
+  numbers = refl;
   answered = with-numbers _ (advance-tests (view st) tick) (numbers-for (advances tick)) refl refl refl;
   untouched = settled (advance-answer (view st) tick) st _;
 }

@@ -15,6 +15,7 @@ pub mod Order
 pub mod Differ
 pub mod AllPlaced
 pub mod Demand1
+pub mod Tests
 pub mod Admitted
 pub mod Demand2
 pub mod Agreement

@@ -54,7 +54,7 @@ numbers-for (withdraws n) = 9 ∷ 10 ∷ []
 numbers-for (advances tick) = 11 ∷ 12 ∷ []
 
 pub record Demand1 (s : Setup) (st : State) (c : Call) : Type 0 where
-  pub numbered : map (λ test. test .number) (tests-for s (view st) c) ≡ numbers-for c
+  pub numbers : map (λ test. test .number) (tests-for s (view st) c) ≡ numbers-for c
   pub answered : AnsweredBy (tests-for s (view st) c) (step s st c .answer)
   pub untouched : step s st c .answer .number ≢ 0 → step s st c .left ≡ st
 

@@ -1,14 +1,21 @@
 -- Fields written one after the other, and the room that they take.
 use mathlib.Core.Path.{_≡_, refl, _∙_}
 use mathlib.Core.List.{List, [], _++_}
-use Prim.Native.Nat.{ℕ, _+_, _≤_}
+use Prim.Native.Nat.{ℕ, _+_, _-_, _^_, _≤_}
 use native.Mathlib.Omega.{arith}
 use lib.ListN.{length, length-append}
-use Rattle.lines.specs.Figures.{field}
+use Rattle.lines.specs.Figures.{digits-within, decimal, field}
+use Rattle.lines.specs.Parts.{word-digits}
 use Rattle.lines.specs.Put.{Puts}
-use Rattle.script.specs.Parts.{PutsField}
-use Rattle.script.specs.Parts.{PutsAtMost}
-use Rattle.lines.proofs.Put.{puts-then, puts-long, put-none}
+use Rattle.script.specs.Parts.{field-room, PutsField, PutsAtMost}
+use Rattle.lines.proofs.Put.{puts-then, puts-long, put-none, field-length}
+
+-- the field of the largest 64-bit number takes all of its room
+field-longest : (key : List ℕ) → length (field key (2 ^ 64 - 1)) ≡ field-room key
+unfolding decimal digits-within
+field-longest key =
+    let digits : length (decimal (2 ^ 64 - 1)) ≡ word-digits = refl in
+    omega (arith, field-length key (2 ^ 64 - 1), digits)
 
 -- bytes written from a place on, no more than so many
 pub record PutWithin (old : List ℕ) (at : ℕ) (bytes new : List ℕ) (next most : ℕ) : Type 0 where
@@ -38,14 +45,14 @@ module _ {old : List ℕ} {at : ℕ} where
 
   -- a field more
   pub within-field :
-      {bytes mid : List ℕ} {next most : ℕ} (key : List ℕ) {n : ℕ} {new : List ℕ} {last : ℕ} → at + (most + (length key + 21)) ≤ length old →
-      PutWithin old at bytes mid next most → PutsField mid next key n new last → PutWithin old at (bytes ++ field key n) new last (most + (length key + 21))
-  within-field key {n} h w p = within-then (field key n) (length key + 21) h w (p .puts) (p .short)
+      {bytes mid : List ℕ} {next most : ℕ} (key : List ℕ) {n : ℕ} {new : List ℕ} {last : ℕ} → at + (most + field-room key) ≤ length old →
+      PutWithin old at bytes mid next most → PutsField mid next key n new last → PutWithin old at (bytes ++ field key n) new last (most + field-room key)
+  within-field key {n} h w p = within-then (field key n) (field-room key) h w (p .puts) (p .short)
 
   -- the first field
   pub first-field :
-      (key : List ℕ) {n : ℕ} {new : List ℕ} {last : ℕ} → at + (length key + 21) ≤ length old → PutsField old at key n new last →
-      PutWithin old at (field key n) new last (length key + 21)
+      (key : List ℕ) {n : ℕ} {new : List ℕ} {last : ℕ} → at + field-room key ≤ length old → PutsField old at key n new last →
+      PutWithin old at (field key n) new last (field-room key)
   first-field key h p = record { puts = p .puts; short = p .short; long = puts-long (p .puts) (let l = p .short in omega arith) }
 
   -- what a caller learns

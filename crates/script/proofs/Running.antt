@@ -26,7 +26,7 @@ use Rattle.script.specs.Keys.{job-key, tick-key}
 use Rattle.texts.specs.JobText.{job-text, blank-job}
 use Rattle.lines.specs.Put.{Puts}
 use Rattle.texts.specs.Reader.{default-machines}
-use Rattle.texts.proofs.Reached.{line-reached, job-reached}
+use Rattle.texts.proofs.Reached.{least-line, line-reached, least-job, job-reached}
 use Rattle.rules.proofs.Sequences.{by-less}
 use Rattle.lines.proofs.Put.{puts-then}
 use Rattle.script.specs.Acts.{Act, input-ends, call, unread, as-act, act, submit-line, withdraw-line, clock-line}
@@ -58,10 +58,11 @@ number-most (Advance t) job c n e = refl
 
 -- a call that carries a number, from its line
 number-reaches :
-    (text : List ℕ) (at size : ℕ) (due : Due) (make : ℕ → Call) (kind : Kind) (job : Job) (next : ℕ) → 4 ≤ length (due .key) → 10 ≤ size →
+    (text : List ℕ) (at size : ℕ) (due : Due) (make : ℕ → Call) (kind : Kind) (job : Job) (next : ℕ) →
+    most-answer ≤ 2 * (size + least-line (due .key)) →
     at + size ≤ length text → ((n : ℕ) (j : Job) → make n ≡ submits j → ⊥) →
     as-act make (at + size) (line due (drop (at + size) text) 0) ≡ call (kind-of kind job) next → Reaches text at kind next
-number-reaches text at size due make kind job next k s f other e = go (line due (drop (at + size) text) 0) refl e
+number-reaches text at size due make kind job next enough f other e = go (line due (drop (at + size) text) 0) refl e
   where
     go : (p : Parsed ℕ) → line due (drop (at + size) text) 0 ≡ p → as-act make (at + size) p ≡ call (kind-of kind job) next → Reaches text at kind next
     go (parsed n last) q h =
@@ -75,16 +76,17 @@ number-reaches text at size due make kind job next k s f other e = go (line due 
         record { on = omega arith; within = omega arith; enough = omega arith }
     go (refused number place) q h = absurd (let z : _≡_ {A = ℕ} 0 1 = cc in omega arith)
 
+-- a submission, from its job text
 job-reaches :
-    (machines : ℕ) (text : List ℕ) (at : ℕ) (kind : Kind) (job : Job) (next : ℕ) → at + 11 ≤ length text →
-    as-act submits (at + 11) (job-text machines (drop (at + 11) text)) ≡ call (kind-of kind job) next → Reaches text at kind next
-job-reaches machines text at kind job next f e = go (job-text machines (drop (at + 11) text)) refl e
+    (machines : ℕ) (text : List ℕ) (at size : ℕ) (kind : Kind) (job : Job) (next : ℕ) → most-reply ≤ 2 * (size + least-job) → at + size ≤ length text →
+    as-act submits (at + size) (job-text machines (drop (at + size) text)) ≡ call (kind-of kind job) next → Reaches text at kind next
+job-reaches machines text at size kind job next enough f e = go (job-text machines (drop (at + size) text)) refl e
   where
-    go : (p : Parsed Job) → job-text machines (drop (at + 11) text) ≡ p → as-act submits (at + 11) p ≡ call (kind-of kind job) next → Reaches text at kind next
+    go : (p : Parsed Job) → job-text machines (drop (at + size) text) ≡ p → as-act submits (at + size) p ≡ call (kind-of kind job) next → Reaches text at kind next
     go (parsed j last) q h =
-        let w = job-reached machines (drop (at + 11) text) j last q in
-        let l = length-drop (at + 11) text in
-        let to : at + 11 + last ≡ next = cc in
+        let w = job-reached machines (drop (at + size) text) j last q in
+        let l = length-drop (at + size) text in
+        let to : at + size + last ≡ next = cc in
         let same : submits j ≡ kind-of kind job = cc in
         let most : most-for kind ≡ most-reply = ap most-for (submits-kind kind job j same) in
         let low = w .on in
@@ -102,7 +104,18 @@ act-reaches machines text at kind job next e =
     (λ more.
     by-test
     (begins submit-line (drop at text))
-    (λ a. job-reaches machines text at kind job next (act-fits text at more submit-line a) (sym (at-submit machines text at more a) ∙ e))
+    (λ a.
+    job-reaches
+    machines
+    text
+    at
+    (length submit-line)
+    kind
+    job
+    next
+    (omega arith)
+    (act-fits text at more submit-line a)
+    (sym (at-submit machines text at more a) ∙ e))
     (λ a.
     by-test
     (begins withdraw-line (drop at text))
@@ -110,13 +123,12 @@ act-reaches machines text at kind job next e =
     number-reaches
     text
     at
-    13
+    (length withdraw-line)
     (any-figure job-key)
     withdraws
     kind
     job
     next
-    (omega arith)
     (omega arith)
     (act-fits text at more withdraw-line b)
     (λ n j q. let z : _≡_ {A = ℕ} 0 1 = cc in omega arith)
@@ -128,13 +140,12 @@ act-reaches machines text at kind job next e =
     number-reaches
     text
     at
-    10
+    (length clock-line)
     (any-figure tick-key)
     advances
     kind
     job
     next
-    (omega arith)
     (omega arith)
     (act-fits text at more clock-line d)
     (λ n j q. let z : _≡_ {A = ℕ} 0 1 = cc in omega arith)

@@ -17,13 +17,15 @@ use Rattle.reservation.specs.declared.Register.{Register}
 use Rattle.reservation.specs.Registers.{Valid}
 use Rattle.reservation.specs.Kinds.{kind-of, call-of}
 use Rattle.lines.specs.Figures.{field}
+use Rattle.lines.specs.Parts.{word-digits}
 use Rattle.lines.specs.Put.{Puts}
 use Rattle.script.specs.declared.acts.ActRead.{ActRead}
 use Rattle.script.specs.declared.acts.ActRead.the-variants.{Called, Unread}
 use Rattle.script.specs.declared.acts.NextAct.{NextAct}
 use Rattle.script.specs.Acts.{Act, call, unread}
-use Rattle.script.specs.Replies.{reply}
-use Rattle.script.specs.Listing.{insert-before, sorted}
+use Rattle.script.specs.Keys.{job-key, from-key, to-key}
+use Rattle.script.specs.Replies.{answer-key, task-key, cost-key, rows-key, refused-key, reply}
+use Rattle.script.specs.Listing.{clock-key, total-key, held-key, machine-key, link-key, start-key, finish-key, insert-before, sorted}
 use Rattle.script.specs.Program.{input-limit}
 use Rattle.script.specs.Contract.{output-size}
 
@@ -35,23 +37,25 @@ act-read (Unread number) c = unread number
 abbrev pub act-said : NextAct → Act
 act-said r = act-read (r .read) (r .call)
 
--- a field of a 64-bit number has twenty digits at the most
+-- the most bytes that a field of a 64-bit number takes: its key, the digits and the line feed
+abbrev pub field-room : (key : List ℕ) → ℕ
+field-room key = length key + (word-digits + 1)
+
 pub record PutsField (old : List ℕ) (at : ℕ) (key : List ℕ) (n : ℕ) (new : List ℕ) (next : ℕ) : Type 0 where
   pub puts : Puts old at (field key n) new next
-  pub short : length (field key n) ≤ length key + 21
+  pub short : length (field key n) ≤ field-room key
 
 -- bytes written, and how many they are at the most
 pub record PutsAtMost (old : List ℕ) (at : ℕ) (bytes new : List ℕ) (next most : ℕ) : Type 0 where
   pub puts : Puts old at bytes new next
   pub short : length bytes ≤ most
 
--- the most bytes that a reply, a row, and a listing take
-abbrev pub most-reply : ℕ
-most-reply = 106
-
--- that of a withdrawal or a clock move has one field
+-- the most bytes that replies, rows and a listing take; the reply to a withdrawal or a clock move has one field
 abbrev pub most-answer : ℕ
-most-answer = 28
+most-answer = field-room answer-key
+
+abbrev pub most-reply : ℕ
+most-reply = most-answer + field-room task-key + field-room cost-key + field-room rows-key
 
 abbrev pub most-for : Kind → ℕ
 most-for Submit = most-reply
@@ -63,10 +67,15 @@ abbrev pub ReplyPuts : (old : List ℕ) (at : ℕ) → Kind → Answer → (new 
 ReplyPuts old at kind answer new next = (job : Job) → PutsAtMost old at (reply (kind-of kind job) answer) new next (most-for kind)
 
 abbrev pub most-heading : ℕ
-most-heading = 80
+most-heading = field-room clock-key + field-room total-key + field-room held-key
+
+-- the five fields of a task's row and the seven of a message's
+abbrev pub most-task-row : ℕ
+most-task-row = field-room machine-key + field-room job-key + field-room task-key + field-room start-key + field-room finish-key
 
 abbrev pub most-row : ℕ
-most-row = 182
+most-row =
+    field-room link-key + field-room to-key + field-room job-key + field-room from-key + field-room task-key + field-room start-key + field-room finish-key
 
 abbrev pub most-listing : ℕ
 most-listing = most-heading + row-limit * most-row
@@ -134,7 +143,7 @@ pub record AskListing (r : Register) (output : List ℕ) (at : ℕ) : Type 0 whe
 
 -- the most bytes that a reading refusal takes
 abbrev pub most-stop : ℕ
-most-stop = 29
+most-stop = field-room refused-key
 
 pub record AskRefusal (r : Register) (output : List ℕ) (at : ℕ) : Type 0 where
   pub valid : Valid r

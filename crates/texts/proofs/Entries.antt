@@ -7,7 +7,8 @@ use native.Mathlib.Omega.{arith}
 use lib.ListN.{getD, take, drop, List·getD-append}
 use lib.Seq.{drop-drop}
 use Rattle.rules.specs.Words.{no-task, most-tasks, most-messages, default-setup}
-use Rattle.texts.specs.JobText.{groups, filled, task-said, message-said, blank-task, blank-message, task-size, message-size, messages-at, job-said}
+use Rattle.texts.specs.JobText.{groups, filled, task-said, message-said, blank-task, blank-message, job-said}
+use Rattle.texts.specs.JobText.{head-size, task-size, message-size, messages-at}
 use Rattle.texts.specs.Laws.{Task-stands, Message-stands, Default-machines}
 use Rattle.texts.proofs.JobLaws.{groups-length}
 
@@ -42,7 +43,7 @@ pub task-stands : Task-stands
 task-stands machines index row h =
     let same : index + 1 - 1 ≡ index = omega arith in
     ap (λ i. getD (job-said machines row .tasks) i no-task) same
-    ∙ group-of task-said (task-size machines) (getD row 2 0) 3 row index blank-task no-task most-tasks h
+    ∙ group-of task-said (task-size machines) (getD row 2 0) head-size row index blank-task no-task most-tasks h
 
 pub message-stands : Message-stands
 message-stands machines index row h =

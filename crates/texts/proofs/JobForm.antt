@@ -16,7 +16,7 @@ use Rattle.lines.specs.Figures.{bytes}
 use Rattle.lines.specs.Lines.{ranged}
 use Rattle.texts.specs.Forms.{Form, ask, fills}
 use Rattle.lines.specs.Lines.{takes}
-use Rattle.texts.specs.JobText.{run-lines, tasks-lines, messages-lines, sent-lines, job-form}
+use Rattle.texts.specs.JobText.{head-size, task-size, message-size, run-lines, tasks-lines, messages-lines, sent-lines, job-form}
 use Rattle.lines.specs.DueLines.{due-of}
 use Rattle.texts.specs.Stages.{job-at}
 use Rattle.texts.specs.Parts.{JobDueIs, AtMost, at-end, at-line}
@@ -58,25 +58,26 @@ unfolding run-lines
 runs-at-most zero a = at-most-more a (omega arith)
 runs-at-most (suc runs) a = at-most-more (at-line (λ n t. runs-at-most runs a)) (omega arith)
 
-messages-at-most : (messages : ℕ) → AtMost (messages * 3) (messages-lines messages)
+messages-at-most : (messages : ℕ) → AtMost (messages * message-size) (messages-lines messages)
 unfolding messages-lines
 messages-at-most zero = at-end
 messages-at-most (suc messages) = at-most-more (at-line (λ i t. at-line (λ j u. at-line (λ k v. messages-at-most messages)))) (omega arith)
 
-sent-at-most : AtMost (1 + most-messages * 3) sent-lines
-sent-at-most = at-line {n = most-messages * 3} (λ messages t. at-most-more (messages-at-most messages) (few messages t))
+sent-at-most : AtMost (1 + most-messages * message-size) sent-lines
+sent-at-most = at-line {n = most-messages * message-size} (λ messages t. at-most-more (messages-at-most messages) (few messages t))
   where
-    few : (messages : ℕ) → takes (ranged (bytes "messages=") 0 most-messages) messages ≡ true → messages * 3 ≤ most-messages * 3
+    few : (messages : ℕ) → takes (ranged (bytes "messages=") 0 most-messages) messages ≡ true → messages * message-size ≤ most-messages * message-size
     few messages t = let h = taken-between (bytes "messages=") 0 most-messages messages t in omega arith
 
 module _ (machines : ℕ) where
-  tasks-at-most : {n : ℕ} {rest : Form} (tasks : ℕ) → AtMost n rest → AtMost (tasks * (2 + machines) + n) (tasks-lines machines tasks rest)
+  tasks-at-most : {n : ℕ} {rest : Form} (tasks : ℕ) → AtMost n rest → AtMost (tasks * task-size machines + n) (tasks-lines machines tasks rest)
   unfolding tasks-lines
   tasks-at-most zero a = at-most-more a (omega arith)
   tasks-at-most (suc tasks) a =
-      at-most-more (at-line (λ j t. at-line (λ k u. runs-at-most machines (tasks-at-most tasks a)))) (let more = suc-mul tasks (2 + machines) in omega arith)
+      let more = suc-mul tasks (task-size machines) in
+      at-most-more (at-line (λ j t. at-line (λ k u. runs-at-most machines (tasks-at-most tasks a)))) (omega arith)
 
-  pub job-form-at-most : AtMost (3 + most-tasks * (2 + machines) + 1 + most-messages * 3) (job-form machines)
+  pub job-form-at-most : AtMost (head-size + most-tasks * task-size machines + 1 + most-messages * message-size) (job-form machines)
   job-form-at-most =
       at-most-more
       (at-line (λ i t. at-line (λ j u. at-line (λ tasks v. at-most-more (tasks-at-most tasks sent-at-most) (few tasks v)))))
@@ -84,5 +85,5 @@ module _ (machines : ℕ) where
     where
       few :
           (tasks : ℕ) → takes (ranged (bytes "tasks=") 1 most-tasks) tasks ≡ true →
-          tasks * (2 + machines) + (1 + most-messages * 3) ≤ most-tasks * (2 + machines) + 1 + most-messages * 3
-      few tasks t = let h = mul-le-mul-right (2 + machines) (taken-between (bytes "tasks=") 1 most-tasks tasks t .1) in omega arith
+          tasks * task-size machines + (1 + most-messages * message-size) ≤ most-tasks * task-size machines + 1 + most-messages * message-size
+      few tasks t = let h = mul-le-mul-right (task-size machines) (taken-between (bytes "tasks=") 1 most-tasks tasks t .1) in omega arith

@@ -10,7 +10,7 @@ use lib.Seq.{length-take-le}
 use Rattle.rules.specs.declared.Job.{Job}
 use Rattle.rules.specs.declared.Task.{Task}
 use Rattle.rules.specs.Sequences.{joined}
-use Rattle.texts.specs.JobText.{task-size, task-figures, job-figures}
+use Rattle.texts.specs.JobText.{head-size, task-size, task-figures, job-figures}
 use Rattle.lines.specs.Put.{Puts}
 use Rattle.texts.specs.Rows.{sent-figures}
 use Rattle.lines.proofs.Put.{puts-long, puts-then, put-none, put-byte, Copied, copied-all}
@@ -96,10 +96,10 @@ put-runs old at machines t h room last w =
 
 -- a job's: its head, its tasks, the count of its messages and they
 pub put-job :
-    (old : List ℕ) (machines : ℕ) (j : Job) {mid : List ℕ} {at : ℕ} {new : List ℕ} {next : ℕ} → 3 ≤ length old →
+    (old : List ℕ) (machines : ℕ) (j : Job) {mid : List ℕ} {at : ℕ} {new : List ℕ} {next : ℕ} → head-size ≤ length old →
     Puts
     (set (set (set old 0 (j .number)) 1 (j .scheduling)) 2 (j .taskcount))
-    3
+    head-size
     (joined (map (task-figures machines) (take (j .taskcount) (j .tasks))))
     mid
     at →

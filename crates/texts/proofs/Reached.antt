@@ -24,7 +24,10 @@ pub record Reached (text : List ℕ) (at least next : ℕ) : Type 0 where
   pub within : next ≤ length text
 
 -- a key, a digit and a line feed
-pub line-reached : (due : Due) (text : List ℕ) (at n next : ℕ) → line due text at ≡ parsed n next → Reached text at (length (due .key) + 2) next
+abbrev pub least-line : (key : List ℕ) → ℕ
+least-line key = length key + 2
+
+pub line-reached : (due : Due) (text : List ℕ) (at n next : ℕ) → line due text at ≡ parsed n next → Reached text at (least-line (due .key)) next
 line-reached due text at n next e =
     let both = line-took due text at n next e in
     let is = both .1 .next-is in
@@ -39,7 +42,7 @@ line-reached due text at n next e =
 -- a form has so many bytes at the least
 pub data AtLeast : ℕ → Form → Type 0 where
   from-here : {form : Form} → AtLeast 0 form
-  one-line : {n : ℕ} {due : Due} {more : ℕ → Form} → ((k : ℕ) → takes due k ≡ true → AtLeast n (more k)) → AtLeast (length (due .key) + 2 + n) (ask due more)
+  one-line : {n : ℕ} {due : Due} {more : ℕ → Form} → ((k : ℕ) → takes due k ≡ true → AtLeast n (more k)) → AtLeast (least-line (due .key) + n) (ask due more)
 
 pub form-within : (form : Form) (text : List ℕ) (at : ℕ) {ns : List ℕ} {next : ℕ} → at ≤ length text → read form text at ≡ parsed ns next →
     Reached text at 0 next
@@ -67,7 +70,7 @@ pub form-reached :
 form-reached {form = form} text at from-here h e = form-within form text at h e
 form-reached text at {ns} {next} (one-line {n = least} {due = due} {more = more} below) h e =
     read-cases
-    (λ p. p ≡ parsed ns next → Reached text at (length (due .key) + 2 + least) next)
+    (λ p. p ≡ parsed ns next → Reached text at (least-line (due .key) + least) next)
     due
     more
     text
@@ -82,14 +85,17 @@ form-reached text at {ns} {next} (one-line {n = least} {due = due} {more = more}
     e
 
 -- The lines up to a first task's dispatch time are due for every job.
+abbrev least-task : ℕ
+least-task = least-line (bytes "deadline=") + (least-line (bytes "dispatch=") + 0)
+
 abbrev pub least-job : ℕ
-least-job = 44
+least-job = least-line (bytes "job=") + (least-line (bytes "sched=") + (least-line (bytes "tasks=") + least-task))
 
 job-at-least : (machines : ℕ) → AtLeast least-job (job-form machines)
 unfolding tasks-lines
 job-at-least machines = one-line (λ i t. one-line (λ j u. one-line (λ tasks v. some-task tasks (taken-between (bytes "tasks=") 1 most-tasks tasks v .0))))
   where
-    some-task : (tasks : ℕ) → 1 ≤ tasks → AtLeast 22 (tasks-lines machines tasks sent-lines)
+    some-task : (tasks : ℕ) → 1 ≤ tasks → AtLeast least-task (tasks-lines machines tasks sent-lines)
     some-task zero h = absurd (omega arith)
     some-task (suc tasks) h = one-line (λ i t. one-line (λ j u. from-here))
 

@@ -68,7 +68,10 @@ blank-task = record { deadline = 0; dispatch = 0; runs = replicate most-machines
 abbrev pub blank-message : Message
 blank-message = record { sender = 0; receiver = 0; volume = 0 }
 
--- how many figures a task and a message have, and where those of the messages begin
+-- how many figures stand before those of the tasks, how many a task and a message have, and where those of the messages begin
+abbrev pub head-size : ℕ
+head-size = 3
+
 abbrev pub task-size : (machines : ℕ) → ℕ
 task-size machines = 2 + machines
 
@@ -76,14 +79,14 @@ abbrev pub message-size : ℕ
 message-size = 3
 
 abbrev pub messages-at : (machines : ℕ) → List ℕ → ℕ
-messages-at machines figures = 3 + getD figures 2 0 * task-size machines
+messages-at machines figures = head-size + getD figures 2 0 * task-size machines
 
 abbrev pub job-said : (machines : ℕ) → List ℕ → Job
 job-said machines figures = record {
   number = getD figures 0 0;
   scheduling = getD figures 1 0;
   taskcount = getD figures 2 0;
-  tasks = filled blank-task most-tasks (groups task-said (task-size machines) (getD figures 2 0) (drop 3 figures));
+  tasks = filled blank-task most-tasks (groups task-said (task-size machines) (getD figures 2 0) (drop head-size figures));
   messagecount = getD figures (messages-at machines figures) 0;
   messages =
       filled blank-message most-messages (

@@ -13,7 +13,7 @@ use Rattle.lines.specs.Lines.{parsed, refused, Due, line}
 use Rattle.lines.specs.Laws.{Stands}
 use Rattle.texts.specs.Forms.{Form, done, ask, read, written, written-into, fills, left}
 use Rattle.lines.specs.Lines.{takes}
-use Rattle.texts.specs.JobText.{job-form, task-said, message-said, blank-task, blank-message, task-size, message-size, messages-at, job-said}
+use Rattle.texts.specs.JobText.{job-form, task-said, message-said, blank-task, blank-message, head-size, task-size, message-size, messages-at, job-said}
 use Rattle.texts.specs.JobText.{job-figures, job-text, writable, written-job, blanked}
 use Rattle.texts.specs.Reader.{default-machines}
 
@@ -86,7 +86,7 @@ Said-again = (machines : ℕ) (j : Job) → Sized machines j → writable machin
 abbrev pub Task-stands : Type 0
 Task-stands =
     (machines index : ℕ) (row : List ℕ) → index < getD row 2 0 →
-    task-of (job-said machines row) (index + 1) ≡ task-said (take (task-size machines) (drop (3 + index * task-size machines) row))
+    task-of (job-said machines row) (index + 1) ≡ task-said (take (task-size machines) (drop (head-size + index * task-size machines) row))
 
 abbrev pub Message-stands : Type 0
 Message-stands =

@@ -13,7 +13,7 @@ ghost use mathlib.Core.Path.{_≡_};
 ghost use Prim.Native.Nat.{_+_, _*_, _≤_};
 ghost use lib.ListN.{length, take, drop};
 ghost use Rattle.rules.specs.Words.{most-tasks, most-messages, most-machines};
-ghost use Rattle.texts.specs.JobText.{task-size, message-size, groups, filled, task-said, message-said, job-said};
+ghost use Rattle.texts.specs.JobText.{head-size, task-size, message-size, groups, filled, task-said, message-said, job-said};
 ghost use Rattle.texts.specs.JobText.{blank-task, blank-message, blank-job, task-figures, message-figures, job-figures};
 ghost use Rattle.texts.specs.Reader.{Reads, default-machines};
 ghost use Rattle.lines.specs.Put.{Puts};
@@ -66,7 +66,7 @@ pub fn blank_job() -> Job
 // The task at an index, from 0.
 pub fn task_at(row: &[u64; FIGURES], machines: u64, index: u64) -> Task
     requires { ⌜ AskTask machines index ⌝ }
-    ensures { λ r. ⌜ r ≡ task-said (take (task-size machines) (drop (3 + index * task-size machines) (now (row .entry)))) ⌝ }
+    ensures { λ r. ⌜ r ≡ task-said (take (task-size machines) (drop (head-size + index * task-size machines) (now (row .entry)))) ⌝ }
 {
     let from = (3 + index * (2 + machines)) as usize;
     let many = machines as usize;
@@ -98,7 +98,7 @@ pub fn message_at(row: &[u64; FIGURES], from: usize, index: usize) -> Message
 
 fn tasks_in(row: &[u64; FIGURES], machines: u64, count: u64) -> [Task; TASKS]
     requires { ⌜ AskTasks machines count ⌝ }
-    ensures { λ r. ⌜ r ≡ filled blank-task most-tasks (groups task-said (task-size machines) count (drop 3 (now (row .entry)))) ⌝ }
+    ensures { λ r. ⌜ r ≡ filled blank-task most-tasks (groups task-said (task-size machines) count (drop head-size (now (row .entry)))) ⌝ }
 {
     let none = blank_task();
     let mut tasks = [none; TASKS];

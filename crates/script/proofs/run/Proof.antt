@@ -2,6 +2,7 @@
 use mathlib.Core.Path.{_≡_}
 use borrow.Author.Needs.{needs}
 use lib.ListN.{length}
+use Rattle.script.specs.Contract.{output-size}
 use Rattle.script.proofs.Running.{whole-run, too-long}
 use Rattle.script.proofs.run.Statement.{statement}
 use Rattle.script.proofs.run.Tie as tie
@@ -10,14 +11,14 @@ returns : tie.Need-returns
 returns c =
     let above = c .before .before .before in
     let a = above .before .before .args in
-    let long : length (a .output .now) ≡ 184320 = search needs in
+    let long : length (a .output .now) ≡ output-size = search needs in
     let put = c .put-refusal in
     whole-run _ _ _ _ long (put .kept .0) (too-long (a .input .now) _ _ _ _ (above .if1 .taken) (c .before .new .ensures .0) (put .ensures))
 
 returns-2 : tie.Need-returns-2
 returns-2 c =
     let a = c .before .before .before .before .args in
-    let long : length (a .output .now) ≡ 184320 = search needs in
+    let long : length (a .output .now) ≡ output-size = search needs in
     whole-run (a .input .now) _ _ _ long (c .run-calls .kept .1 .0) (c .run-calls .ensures)
 
 pub run-spec : {M : Type 1} → statement M

@@ -1,6 +1,7 @@
 -- `booking::jobs::across` is safe and ends: the measure is the count of messages that are left.
 use Prim.Native.Nat.{_-_}
 use native.Mathlib.Omega.{arith}
+use Rattle.rules.specs.Words.{most-messages}
 use Rattle.booking.proofs.jobs.across.Statement.{statement}
 use Rattle.booking.proofs.jobs.across.Tie as tie
 
@@ -8,7 +9,7 @@ abbrev Inv-loop : tie.InvT-loop
 Inv-loop volume messages₀ i₀ messages i = Unit {0}
 
 abbrev μ-loop : tie.MeasureT-loop
-μ-loop volume messages₀ i₀ messages i = 32 - i
+μ-loop volume messages₀ i₀ messages i = most-messages - i
 
 add-message : tie.Need-add-message Inv-loop μ-loop
 add-message c = omega arith

@@ -1,6 +1,7 @@
 -- `booking::jobs::large_tasks` is safe and ends: the measure is the count of tasks that are left.
 use Prim.Native.Nat.{_-_}
 use native.Mathlib.Omega.{arith}
+use Rattle.rules.specs.Words.{most-tasks}
 use Rattle.booking.proofs.jobs.large_tasks.Statement.{statement}
 use Rattle.booking.proofs.jobs.large_tasks.Tie as tie
 
@@ -8,7 +9,7 @@ abbrev Inv-loop : tie.InvT-loop
 Inv-loop tasks₀ i₀ tasks i = Unit {0}
 
 abbrev μ-loop : tie.MeasureT-loop
-μ-loop tasks₀ i₀ tasks i = 16 - i
+μ-loop tasks₀ i₀ tasks i = most-tasks - i
 
 mul-tasks : tie.Need-mul-tasks Inv-loop μ-loop
 mul-tasks c = omega arith

@@ -1,16 +1,18 @@
 -- `conformance::compare::links_from_apart` is safe and ends: its loop has a turn for each of the four receiving machines.
-use Prim.Native.Nat.{_≤_, _-_}
+use Prim.Native.Nat.{_+_, _≤_, _-_}
 use borrow.Author.Needs.{needs}
+use Rattle.rules.specs.Words.{default-setup}
 use Rattle.conformance.proofs.compare.links_from_apart.Statement.{statement}
 use Rattle.conformance.proofs.compare.links_from_apart.Tie as tie
 
 abbrev Inv-loop : tie.InvT-loop
-Inv-loop source theirs setup apart₀ target₀ apart target = (1 ≤ target) × (target ≤ 5)
+Inv-loop source theirs setup apart₀ target₀ apart target = (1 ≤ target) × (target ≤ default-setup .table .machines + 1)
 
 abbrev μ-loop : tie.MeasureT-loop
-μ-loop source theirs setup apart₀ target₀ apart target = 5 - target
+μ-loop source theirs setup apart₀ target₀ apart target = default-setup .table .machines + 1 - target
 
 pub links-from-apart-spec : {M : Type 1} → statement M
+unfolding default-setup
 links-from-apart-spec =
     tie.close
     (tie.spec

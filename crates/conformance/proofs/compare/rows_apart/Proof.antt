@@ -1,14 +1,15 @@
 -- `conformance::compare::rows_apart` is safe and ends: its loop has a turn for each of the 256 rows.
 use Prim.Native.Nat.{_≤_, _-_}
 use borrow.Author.Needs.{needs}
+use Rattle.rules.specs.Words.{row-limit}
 use Rattle.conformance.proofs.compare.rows_apart.Statement.{statement}
 use Rattle.conformance.proofs.compare.rows_apart.Tie as tie
 
 abbrev Inv-loop : tie.InvT-loop
-Inv-loop ours count theirs apart₀ i₀ apart i = i ≤ 256
+Inv-loop ours count theirs apart₀ i₀ apart i = i ≤ row-limit
 
 abbrev μ-loop : tie.MeasureT-loop
-μ-loop ours count theirs apart₀ i₀ apart i = 256 - i
+μ-loop ours count theirs apart₀ i₀ apart i = row-limit - i
 
 pub rows-apart-spec : {M : Type 1} → statement M
 rows-apart-spec =

@@ -1,14 +1,15 @@
 -- `conformance::jobs::made_up_tasks` is safe and ends: its loop has a turn for each of the 16 tasks.
 use Prim.Native.Nat.{_≤_, _-_}
 use borrow.Author.Needs.{needs}
+use Rattle.rules.specs.Words.{most-tasks}
 use Rattle.conformance.proofs.jobs.made_up_tasks.Statement.{statement}
 use Rattle.conformance.proofs.jobs.made_up_tasks.Tie as tie
 
 abbrev Inv-loop : tie.InvT-loop
-Inv-loop shape clock seed taskcount tasks₀ earliest₀ i₀ tasks earliest i = i ≤ 16
+Inv-loop shape clock seed taskcount tasks₀ earliest₀ i₀ tasks earliest i = i ≤ most-tasks
 
 abbrev μ-loop : tie.MeasureT-loop
-μ-loop shape clock seed taskcount tasks₀ earliest₀ i₀ tasks earliest i = 16 - i
+μ-loop shape clock seed taskcount tasks₀ earliest₀ i₀ tasks earliest i = most-tasks - i
 
 pub made-up-tasks-spec : {M : Type 1} → statement M
 made-up-tasks-spec =

@@ -1,14 +1,15 @@
 -- `conformance::jobs::with_inputs` is safe and ends: its loop has a turn for each of the 15 tasks that can send.
 use Prim.Native.Nat.{_≤_, _-_}
 use borrow.Author.Needs.{needs}
+use Rattle.rules.specs.Words.{most-tasks}
 use Rattle.conformance.proofs.jobs.with_inputs.Statement.{statement}
 use Rattle.conformance.proofs.jobs.with_inputs.Tie as tie
 
 abbrev Inv-loop : tie.InvT-loop
-Inv-loop job graph width volume seed receiver more₀ sender₀ more sender = sender ≤ 16
+Inv-loop job graph width volume seed receiver more₀ sender₀ more sender = sender ≤ most-tasks
 
 abbrev μ-loop : tie.MeasureT-loop
-μ-loop job graph width volume seed receiver more₀ sender₀ more sender = 16 - sender
+μ-loop job graph width volume seed receiver more₀ sender₀ more sender = most-tasks - sender
 
 pub with-inputs-spec : {M : Type 1} → statement M
 with-inputs-spec =

@@ -1,14 +1,15 @@
 -- `conformance::jobs::with_messages` is safe and ends: its loop has a turn for each of the 15 tasks that can receive.
-use Prim.Native.Nat.{_≤_, _-_}
+use Prim.Native.Nat.{_+_, _≤_, _-_}
 use borrow.Author.Needs.{needs}
+use Rattle.rules.specs.Words.{most-tasks}
 use Rattle.conformance.proofs.jobs.with_messages.Statement.{statement}
 use Rattle.conformance.proofs.jobs.with_messages.Tie as tie
 
 abbrev Inv-loop : tie.InvT-loop
-Inv-loop job graph width volume seed more₀ receiver₀ more receiver = receiver ≤ 17
+Inv-loop job graph width volume seed more₀ receiver₀ more receiver = receiver ≤ most-tasks + 1
 
 abbrev μ-loop : tie.MeasureT-loop
-μ-loop job graph width volume seed more₀ receiver₀ more receiver = 17 - receiver
+μ-loop job graph width volume seed more₀ receiver₀ more receiver = most-tasks + 1 - receiver
 
 pub with-messages-spec : {M : Type 1} → statement M
 with-messages-spec =

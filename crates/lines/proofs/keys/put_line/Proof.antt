@@ -3,6 +3,7 @@ use mathlib.Core.Path.{_≡_, _∙_}
 use Prim.Native.Nat.{_<_}
 use native.Mathlib.Omega.{arith}
 use lib.ListN.{length, length-set}
+use Rattle.lines.specs.Figures.{line-feed}
 use Rattle.lines.specs.DueLines.{key-bytes}
 use Rattle.lines.proofs.Put.{field-length, figure-room, field-long, feed-room, field-puts}
 use Rattle.lines.proofs.keys.put_line.Statement.{statement}
@@ -39,7 +40,7 @@ add-result c =
     omega (arith, room put, long put, start (key-put put) .good)
 
 same-length : tie.Need-same-length
-same-length c = let put = c .before .before in length-set (put .put-figure .last .0) (put .put-figure .result) 10 ∙ long put
+same-length c = let put = c .before .before in length-set (put .put-figure .last .0) (put .put-figure .result) line-feed ∙ long put
 
 returns : tie.Need-returns
 returns c =

@@ -3,6 +3,7 @@ use mathlib.Core.Path.{_≡_, refl}
 use native.Mathlib.Omega.{arith}
 use borrow.Author.Needs.{needs}
 use borrow.Author.Tests.{eq-eqb, ne-eqb}
+use Rattle.lines.specs.Figures.{zero-digit}
 use Rattle.lines.proofs.Numbers.{no-digits, too-many, feed-missing, other-byte, leading-zero, well}
 use Rattle.lines.proofs.line.number.Statement.{statement}
 use Rattle.lines.proofs.line.number.Tie as tie
@@ -51,7 +52,7 @@ returns-7 c =
     (on .before .if2 .left)
     (on .if3 .left)
     (more .before .if4 .left)
-    (rw (ne-eqb _ 1 (more .if5 .left), ne-eqb _ 48 (c .if6 .left)) refl)
+    (rw (ne-eqb _ 1 (more .if5 .left), ne-eqb _ zero-digit (c .if6 .left)) refl)
 
 pub number-spec : {M : Type 1} → statement M
 number-spec =

@@ -48,7 +48,7 @@ loop-again c =
     let turn = byte digit .before in
     rw
     (c .wide .ensures)
-    (scanned-more (turn .before .loop .inv) (turn .loop-test .taken) (byte digit .if1 .left) (digit .before .if2 .left) (digit .if3 .left))
+    (scanned-more (turn .before .loop .inv) (turn .loop-test .taken) (byte digit .if1 .left) (digit .before .if2 .left) (omega (arith, digit .if3 .left)))
 
 returns-4 : tie.Need-returns-4 Inv-loop μ-loop
 returns-4 c = scan-many (c .before .loop .inv) (c .loop-test .left)

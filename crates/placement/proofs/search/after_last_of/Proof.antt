@@ -9,10 +9,10 @@ use Rattle.placement.proofs.search.after_last_of.Statement.{statement}
 use Rattle.placement.proofs.search.after_last_of.Tie as tie
 
 abbrev Inv-loop : tie.InvT-loop
-Inv-loop resources key from below left₀ left = LookedBack key resources from below left
+Inv-loop resources code from below left₀ left = LookedBack code resources from below left
 
 abbrev μ-loop : tie.MeasureT-loop
-μ-loop resources key from below left₀ left = left
+μ-loop resources code from below left₀ left = left
 
 loop-holds : tie.Need-loop-holds Inv-loop μ-loop
 loop-holds c = record { down = c .pre .0; within = omega arith; none = λ j a b. absurd (omega arith) }
@@ -43,7 +43,7 @@ loop-less c = omega (arith, c .before .before .loop-test .taken)
 loop-again : tie.Need-loop-again Inv-loop μ-loop
 loop-again c =
     let a = c .before .before .before .before .args in
-    back-looked-more (a .key) (a .resources .now) (a .from) (a .below) (c .before .before .before .loop .left) (c .before .before .loop-test .taken)
+    back-looked-more (a .code) (a .resources .now) (a .from) (a .below) (c .before .before .before .loop .left) (c .before .before .loop-test .taken)
     (c .before .before .before .loop .inv) (c .if1 .left)
 
 returns-2 : tie.Need-returns-2 Inv-loop μ-loop

@@ -8,11 +8,11 @@ use Rattle.placement.proofs.search.least_free.Statement.{statement}
 use Rattle.placement.proofs.search.least_free.Tie as tie
 
 abbrev Inv-loop : tie.InvT-loop
-Inv-loop resources starts finishes nexts backs held count key from len tick₀ last₀ tick last =
-    Seeking from len (spans-of key resources starts finishes count) tick last
+Inv-loop resources starts finishes nexts backs held count code from len tick₀ last₀ tick last =
+    Seeking from len (spans-of code resources starts finishes count) tick last
 
 abbrev μ-loop : tie.MeasureT-loop
-μ-loop resources starts finishes nexts backs held count key from len tick₀ last₀ tick last = tick-bound - tick
+μ-loop resources starts finishes nexts backs held count code from len tick₀ last₀ tick last = tick-bound - tick
 
 -- The stops that the proof goes back to.
 
@@ -26,7 +26,7 @@ loop-holds : tie.Need-loop-holds Inv-loop μ-loop
 loop-holds c =
     let a = c .before .args in
     let pre = c .before .pre .0 in
-    let bound = swept-bound (a .resources .now) (a .starts .now) (a .finishes .now) (a .count) (a .key) (a .len) (a .from) (pre .spans) (pre .from-below) in
+    let bound = swept-bound (a .resources .now) (a .starts .now) (a .finishes .now) (a .count) (a .code) (a .len) (a .from) (pre .spans) (pre .from-below) in
     seeking-none (a .from) (a .len) _ (c .sweep .ensures) (rw (c .sweep .ensures) bound)
 
 sweep-back-requires : tie.Need-sweep-back-requires Inv-loop μ-loop
@@ -42,7 +42,7 @@ back-below : (c : tie.After-sweep-back Inv-loop μ-loop) → c .sweep-back .resu
 back-below c =
     let start = c .before .before .before .before in
     let a = start .args in
-    let bound = back-bound (a .resources .now) (a .starts .now) (a .finishes .now) (a .count) (a .key) (a .len) _ (start .pre .0 .spans)
+    let bound = back-bound (a .resources .now) (a .starts .now) (a .finishes .now) (a .count) (a .code) (a .len) _ (start .pre .0 .spans)
     (c .before .before .loop .inv .below) in
     rw (c .sweep-back .ensures) bound
 
@@ -60,7 +60,7 @@ loop-less : tie.Need-loop-less Inv-loop μ-loop
 loop-less c =
     let at = c .before .before .before .before in
     let a = start-2 (c .before .before) .args in
-    let on = back-from (a .len) (spans-of (a .key) (a .resources .now) (a .starts .now) (a .finishes .now) (a .count)) (at .loop .last) in
+    let on = back-from (a .len) (spans-of (a .code) (a .resources .now) (a .starts .now) (a .finishes .now) (a .count)) (at .loop .last) in
     let below = back-below (c .before .before) in
     let test = c .before .before .before .loop-test .taken in
     omega (arith, c .before .before .sweep-back .ensures)
@@ -70,7 +70,7 @@ loop-again c =
     let start = start-2 (c .before .before) in
     let a = start .args in
     let inv = c .before .before .before .before .loop .inv in
-    let bound = swept-bound (a .resources .now) (a .starts .now) (a .finishes .now) (a .count) (a .key) (a .len) _ (start .pre .0 .spans)
+    let bound = swept-bound (a .resources .now) (a .starts .now) (a .finishes .now) (a .count) (a .code) (a .len) _ (start .pre .0 .spans)
     (back-below (c .before .before)) in
     seeking-more (a .from) (a .len) _ inv (c .before .before .sweep-back .ensures) (c .sweep2 .ensures) (rw (c .sweep2 .ensures) bound)
 

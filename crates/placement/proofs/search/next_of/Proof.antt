@@ -9,10 +9,10 @@ use Rattle.placement.proofs.search.next_of.Statement.{statement}
 use Rattle.placement.proofs.search.next_of.Tie as tie
 
 abbrev Inv-loop : tie.InvT-loop
-Inv-loop resources count key from i₀ i = Looked key resources count from i
+Inv-loop resources count code from i₀ i = Looked code resources count from i
 
 abbrev μ-loop : tie.MeasureT-loop
-μ-loop resources count key from i₀ i = count - i
+μ-loop resources count code from i₀ i = count - i
 
 loop-holds : tie.Need-loop-holds Inv-loop μ-loop
 loop-holds c = record { on = omega arith; within = c .pre .within; none = λ j a b. absurd (omega arith) }
@@ -40,7 +40,7 @@ loop-less c = less-next _ _ (c .before .before .loop-test .taken)
 loop-again : tie.Need-loop-again Inv-loop μ-loop
 loop-again c =
     let a = c .before .before .before .before .args in
-    looked-more (a .key) (a .resources .now) (a .count) (a .from) (c .before .before .before .loop .i) (c .before .before .loop-test .taken)
+    looked-more (a .code) (a .resources .now) (a .count) (a .from) (c .before .before .before .loop .i) (c .before .before .loop-test .taken)
     (c .before .before .before .loop .inv) (c .if1 .left)
 
 returns-2 : tie.Need-returns-2 Inv-loop μ-loop

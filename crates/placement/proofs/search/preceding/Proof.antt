@@ -2,7 +2,7 @@
 use Prim.Native.Nat.{_+_, _<_}
 use mathlib.Core.Path.{refl}
 use Rattle.rules.proofs.Sums.{below-fits, index-fits}
-use Rattle.placement.proofs.Sums.{thread-place, key-place}
+use Rattle.placement.proofs.Sums.{thread-place, code-place}
 use Rattle.placement.specs.Threads.{resource-bound, nodes}
 use Rattle.placement.proofs.Threading.{last-at, own-last, threaded-last}
 use Rattle.placement.proofs.search.preceding.Statement.{statement}
@@ -32,10 +32,10 @@ returns-2 : tie.Need-returns-2
 returns-2 c = own-last (c .before .after-last-of .ensures) (c .if2 .taken)
 
 mul-result-2 : tie.Need-mul-result-2
-mul-result-2 c = index-fits _ (key-place _ (c .before .before .before .pre .0 .along .known)) refl
+mul-result-2 c = index-fits _ (code-place _ (c .before .before .before .pre .0 .along .known)) refl
 
 element-copy-out-result-2 : tie.Need-element-copy-out-result-2
-element-copy-out-result-2 c = key-place _ (c .before .before .before .pre .0 .along .known)
+element-copy-out-result-2 c = code-place _ (c .before .before .before .pre .0 .along .known)
 
 returns-3 : tie.Need-returns-3
 returns-3 c =

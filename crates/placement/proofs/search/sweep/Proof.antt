@@ -5,7 +5,7 @@ use native.Mathlib.Numerals.{add-one}
 use Prim.Native.Nat.{ℕ, suc, _+_, _-_, _<_}
 use lib.ListN.{getD}
 use Rattle.rules.proofs.Sums.{index-below, index-fits}
-use Rattle.placement.proofs.Sums.{key-place}
+use Rattle.placement.proofs.Sums.{code-place}
 use Rattle.placement.specs.Columns.{room}
 use Rattle.placement.specs.Threads.{nodes}
 use Rattle.placement.proofs.Passes.{Swept, swept-none, swept-more, swept-skip, at-own}
@@ -13,11 +13,11 @@ use Rattle.placement.proofs.search.sweep.Statement.{statement}
 use Rattle.placement.proofs.search.sweep.Tie as tie
 
 abbrev Inv-loop : tie.InvT-loop
-Inv-loop resources starts finishes nexts held count key from len tick₀ i₀ tick i =
-    Swept resources starts finishes count key from len tick i × (i < count → getD resources i 0 ≡ key)
+Inv-loop resources starts finishes nexts held count code from len tick₀ i₀ tick i =
+    Swept resources starts finishes count code from len tick i × (i < count → getD resources i 0 ≡ code)
 
 abbrev μ-loop : tie.MeasureT-loop
-μ-loop resources starts finishes nexts held count key from len tick₀ i₀ tick i = count - i
+μ-loop resources starts finishes nexts held count code from len tick₀ i₀ tick i = count - i
 
 -- The stops that the proof goes back to.
 
@@ -30,14 +30,14 @@ head c = c .before .before .before .before
 entry-below : (c : tie.In-loop Inv-loop μ-loop) → c .before .loop .i < room
 entry-below c = index-below (c .loop-test .taken) (c .before .before .before .before .pre .0 .spans .within)
 
-key-there : (c : tie.Start Inv-loop μ-loop) → c .args .key < nodes
-key-there c = key-place _ (c .pre .1 .0 .known)
+code-there : (c : tie.Start Inv-loop μ-loop) → c .args .code < nodes
+code-there c = code-place _ (c .pre .1 .0 .known)
 
 mul-threaded-or-own : tie.Need-mul-threaded-or-own Inv-loop μ-loop
-mul-threaded-or-own c = index-fits _ (key-there c) refl
+mul-threaded-or-own c = index-fits _ (code-there c) refl
 
 element-copy-out-threaded-or-own : tie.Need-element-copy-out-threaded-or-own Inv-loop μ-loop
-element-copy-out-threaded-or-own c = key-there c
+element-copy-out-threaded-or-own c = code-there c
 
 threaded-or-own-requires : tie.Need-threaded-or-own-requires Inv-loop μ-loop
 threaded-or-own-requires c κs = record { within = c .before .pre .1 .1; few = c .before .pre .0 .spans .within }
@@ -47,8 +47,8 @@ loop-holds c =
     let a = c .before .before .args in
     let pre = c .before .before .pre in
     let next = c .threaded-or-own .ensures 0 (pre .1 .2 .first _ (pre .1 .0 .known)) in (
-      swept-skip (a .resources .now) (a .starts .now) (a .finishes .now) (a .count) (a .key) (a .from) (a .len) (a .from) 0 (c .threaded-or-own .result)
-          (swept-none (a .resources .now) (a .starts .now) (a .finishes .now) (a .count) (a .key) (a .from) (a .len) (pre .0 .from-below)) next,
+      swept-skip (a .resources .now) (a .starts .now) (a .finishes .now) (a .count) (a .code) (a .from) (a .len) (a .from) 0 (c .threaded-or-own .result)
+          (swept-none (a .resources .now) (a .starts .now) (a .finishes .now) (a .count) (a .code) (a .from) (a .len) (pre .0 .from-below)) next,
       next .here,
     )
 
@@ -92,19 +92,19 @@ loop-again c =
     let own = at .loop .inv .1 test in
     let next = c .following .ensures in
     let moved =
-    swept-more (a .resources .now) (a .starts .now) (a .finishes .now) (a .count) (a .key) (a .from) (a .len) (at .loop .tick) (at .loop .i)
+    swept-more (a .resources .now) (a .starts .now) (a .finishes .now) (a .count) (a .code) (a .from) (a .len) (at .loop .tick) (at .loop .i)
     (start (c .before .before .before .before) .pre .0 .spans) test (at .loop .inv .0)
     in
-    let tick = sym (c .before .past .ensures ∙ sym (at-own (a .resources .now) (a .starts .now) (a .finishes .now) (a .key) (a .len) (at .loop .tick)
+    let tick = sym (c .before .past .ensures ∙ sym (at-own (a .resources .now) (a .starts .now) (a .finishes .now) (a .code) (a .len) (at .loop .tick)
     (at .loop .i) own)) in
-    let here : Swept (a .resources .now) (a .starts .now) (a .finishes .now) (a .count) (a .key) (a .from) (a .len) (c .before .past .result)
+    let here : Swept (a .resources .now) (a .starts .now) (a .finishes .now) (a .count) (a .code) (a .from) (a .len) (c .before .past .result)
     (at .loop .i + 1) =
     subst
-    (λ (n : ℕ). Swept (a .resources .now) (a .starts .now) (a .finishes .now) (a .count) (a .key) (a .from) (a .len) (c .before .past .result) n)
+    (λ (n : ℕ). Swept (a .resources .now) (a .starts .now) (a .finishes .now) (a .count) (a .code) (a .from) (a .len) (c .before .past .result) n)
     (sym (add-one (at .loop .i)))
-    (subst (λ (t : ℕ). Swept (a .resources .now) (a .starts .now) (a .finishes .now) (a .count) (a .key) (a .from) (a .len) t (suc (at .loop .i))) tick moved)
+    (subst (λ (t : ℕ). Swept (a .resources .now) (a .starts .now) (a .finishes .now) (a .count) (a .code) (a .from) (a .len) t (suc (at .loop .i))) tick moved)
     in (
-      swept-skip (a .resources .now) (a .starts .now) (a .finishes .now) (a .count) (a .key) (a .from) (a .len) (c .before .past .result) (at .loop .i + 1)
+      swept-skip (a .resources .now) (a .starts .now) (a .finishes .now) (a .count) (a .code) (a .from) (a .len) (c .before .past .result) (at .loop .i + 1)
           (c .following .result) here next,
       next .here,
     )

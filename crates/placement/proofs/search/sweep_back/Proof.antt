@@ -11,11 +11,11 @@ use Rattle.placement.proofs.search.sweep_back.Statement.{statement}
 use Rattle.placement.proofs.search.sweep_back.Tie as tie
 
 abbrev Inv-loop : tie.InvT-loop
-Inv-loop resources starts finishes backs held count key from len tick₀ left₀ tick left =
-    SweptBack resources starts finishes count key from len tick left × (0 < left → getD resources (left - 1) 0 ≡ key)
+Inv-loop resources starts finishes backs held count code from len tick₀ left₀ tick left =
+    SweptBack resources starts finishes count code from len tick left × (0 < left → getD resources (left - 1) 0 ≡ code)
 
 abbrev μ-loop : tie.MeasureT-loop
-μ-loop resources starts finishes backs held count key from len tick₀ left₀ tick left = left
+μ-loop resources starts finishes backs held count code from len tick₀ left₀ tick left = left
 
 -- The stops that the proof goes back to.
 
@@ -39,8 +39,8 @@ loop-holds : tie.Need-loop-holds Inv-loop μ-loop
 loop-holds c =
     let a = c .before .args in
     let last = c .preceding .ensures in (
-      back-skip (a .resources .now) (a .starts .now) (a .finishes .now) (a .count) (a .key) (a .from) (a .len) (a .from) (a .count) (c .preceding .result)
-          (back-none (a .resources .now) (a .starts .now) (a .finishes .now) (a .count) (a .key) (a .from) (a .len) (c .before .pre .0 .from-below)) last,
+      back-skip (a .resources .now) (a .starts .now) (a .finishes .now) (a .count) (a .code) (a .from) (a .len) (a .from) (a .count) (c .preceding .result)
+          (back-none (a .resources .now) (a .starts .now) (a .finishes .now) (a .count) (a .code) (a .from) (a .len) (c .before .pre .0 .from-below)) last,
       last .here,
     )
 
@@ -86,20 +86,20 @@ loop-again c =
     let one : at .loop .left ≡ suc (at .loop .left - 1) = omega (arith, test) in
     let moved =
     back-more
-    (a .resources .now) (a .starts .now) (a .finishes .now) (a .count) (a .key) (a .from) (a .len)
+    (a .resources .now) (a .starts .now) (a .finishes .now) (a .count) (a .code) (a .from) (a .len)
     (at .loop .tick)
     (at .loop .left - 1)
     (start (c .before .before .before) .pre .0 .spans)
     (entry-there (c .before .before .before .before))
-    (subst (λ (n : ℕ). SweptBack (a .resources .now) (a .starts .now) (a .finishes .now) (a .count) (a .key) (a .from) (a .len) (at .loop .tick) n) one
+    (subst (λ (n : ℕ). SweptBack (a .resources .now) (a .starts .now) (a .finishes .now) (a .count) (a .code) (a .from) (a .len) (at .loop .tick) n) one
     (at .loop .inv .0))
     in
-    let tick = sym (c .before .past .ensures ∙ sym (at-own (a .resources .now) (a .starts .now) (a .finishes .now) (a .key) (a .len) (at .loop .tick)
+    let tick = sym (c .before .past .ensures ∙ sym (at-own (a .resources .now) (a .starts .now) (a .finishes .now) (a .code) (a .len) (at .loop .tick)
     (at .loop .left - 1) own)) in
-    let here : SweptBack (a .resources .now) (a .starts .now) (a .finishes .now) (a .count) (a .key) (a .from) (a .len) (c .before .past .result)
-    (at .loop .left - 1) = subst (λ (t : ℕ). SweptBack (a .resources .now) (a .starts .now) (a .finishes .now) (a .count) (a .key) (a .from) (a .len) t
+    let here : SweptBack (a .resources .now) (a .starts .now) (a .finishes .now) (a .count) (a .code) (a .from) (a .len) (c .before .past .result)
+    (at .loop .left - 1) = subst (λ (t : ℕ). SweptBack (a .resources .now) (a .starts .now) (a .finishes .now) (a .count) (a .code) (a .from) (a .len) t
     (at .loop .left - 1)) tick moved in (
-      back-skip (a .resources .now) (a .starts .now) (a .finishes .now) (a .count) (a .key) (a .from) (a .len) (c .before .past .result) (at .loop .left - 1)
+      back-skip (a .resources .now) (a .starts .now) (a .finishes .now) (a .count) (a .code) (a .from) (a .len) (c .before .past .result) (at .loop .left - 1)
           (c .preceding2 .result) here last,
       last .here,
     )
@@ -109,7 +109,7 @@ returns c =
     let at = c .before in
     let a = c .before .before .before .args in
     let none : at .loop .left ≡ 0 = omega (arith, c .loop-test .left) in
-    sym (at .loop .inv .0 .to-come ∙ ap (λ (n : ℕ). swept-back (a .len) (spans-of (a .key) (a .resources .now) (a .starts .now) (a .finishes .now) n)
+    sym (at .loop .inv .0 .to-come ∙ ap (λ (n : ℕ). swept-back (a .len) (spans-of (a .code) (a .resources .now) (a .starts .now) (a .finishes .now) n)
     (at .loop .tick)) none)
 
 pub sweep-back-spec : {M : Type 1} → statement M

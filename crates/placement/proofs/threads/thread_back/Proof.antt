@@ -4,7 +4,7 @@ use native.Mathlib.Omega.{arith}
 use lib.ListN.{getD}
 use mathlib.Core.Path.{refl}
 use Rattle.rules.proofs.Sums.{less-next, below-fits, next-fits, index-fits}
-use Rattle.placement.proofs.Sums.{thread-place, key-place}
+use Rattle.placement.proofs.Sums.{thread-place, code-place}
 use Rattle.placement.specs.Columns.{room}
 use Rattle.placement.specs.Threads.{resource-bound, nodes}
 use Rattle.placement.proofs.Threading.{MadeBack, made-back-none, made-back-more, made-back-all}
@@ -27,20 +27,20 @@ entry-below c = omega (arith, c .loop-test .taken, c .before .before .pre .0 .fe
 entry-place : (c : tie.In-loop Inv-loop μ-loop) → resource-bound + c .before .loop .i < nodes
 entry-place c = thread-place _ _ (c .loop-test .taken) (c .before .before .pre .0 .few)
 
-key-known : (c : tie.In-loop Inv-loop μ-loop) → getD (c .before .before .args .resources .now) (c .before .loop .i) 0 < nodes
-key-known c = key-place _ (c .before .before .pre .0 .known _ (c .loop-test .taken))
+code-known : (c : tie.In-loop Inv-loop μ-loop) → getD (c .before .before .args .resources .now) (c .before .loop .i) 0 < nodes
+code-known c = code-place _ (c .before .before .pre .0 .known _ (c .loop-test .taken))
 
-mul-key : tie.Need-mul-key Inv-loop μ-loop
-mul-key c = index-fits _ (entry-below c) refl
+mul-code : tie.Need-mul-code Inv-loop μ-loop
+mul-code c = index-fits _ (entry-below c) refl
 
-element-copy-out-key : tie.Need-element-copy-out-key Inv-loop μ-loop
-element-copy-out-key c = entry-below c
+element-copy-out-code : tie.Need-element-copy-out-code Inv-loop μ-loop
+element-copy-out-code c = entry-below c
 
 mul-back : tie.Need-mul-back Inv-loop μ-loop
-mul-back c = index-fits _ (key-known (c .before)) refl
+mul-back c = index-fits _ (code-known (c .before)) refl
 
 element-copy-out-back : tie.Need-element-copy-out-back Inv-loop μ-loop
-element-copy-out-back c = key-known (c .before)
+element-copy-out-back c = code-known (c .before)
 
 add-backs : tie.Need-add-backs Inv-loop μ-loop
 add-backs c = below-fits (entry-place (c .before .before)) refl
@@ -55,10 +55,10 @@ add-i : tie.Need-add-i Inv-loop μ-loop
 add-i c = next-fits (entry-below (c .before .before)) refl
 
 mul-backs-2 : tie.Need-mul-backs-2 Inv-loop μ-loop
-mul-backs-2 c = index-fits _ (key-known (c .before .before)) refl
+mul-backs-2 c = index-fits _ (code-known (c .before .before)) refl
 
 element-write-backs-2 : tie.Need-element-write-backs-2 Inv-loop μ-loop
-element-write-backs-2 c = key-known (c .before .before)
+element-write-backs-2 c = code-known (c .before .before)
 
 loop-less : tie.Need-loop-less Inv-loop μ-loop
 loop-less c = less-next _ _ (c .before .before .loop-test .taken)
@@ -76,8 +76,8 @@ thread-back-spec =
     Inv-loop
     μ-loop
     loop-holds
-    mul-key
-    element-copy-out-key
+    mul-code
+    element-copy-out-code
     mul-back
     element-copy-out-back
     add-backs

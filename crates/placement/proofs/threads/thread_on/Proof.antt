@@ -4,7 +4,7 @@ use native.Mathlib.Omega.{arith}
 use lib.ListN.{getD}
 use mathlib.Core.Path.{refl}
 use Rattle.rules.proofs.Sums.{below-fits, index-fits}
-use Rattle.placement.proofs.Sums.{thread-place, key-place}
+use Rattle.placement.proofs.Sums.{thread-place, code-place}
 use Rattle.placement.specs.Columns.{room}
 use Rattle.placement.specs.Threads.{resource-bound, nodes}
 use Rattle.placement.proofs.Threading.{MadeOn, made-on-none, made-on-down, made-on-all}
@@ -30,23 +30,23 @@ entry-below c = let there = entry-there c in omega (arith, c .before .before .pr
 entry-place : (c : tie.In-loop Inv-loop μ-loop) → resource-bound + (c .before .loop .left - 1) < nodes
 entry-place c = thread-place _ _ (entry-there c) (c .before .before .pre .0 .few)
 
-key-known : (c : tie.In-loop Inv-loop μ-loop) → getD (c .before .before .args .resources .now) (c .before .loop .left - 1) 0 < nodes
-key-known c = key-place _ (c .before .before .pre .0 .known _ (entry-there c))
+code-known : (c : tie.In-loop Inv-loop μ-loop) → getD (c .before .before .args .resources .now) (c .before .loop .left - 1) 0 < nodes
+code-known c = code-place _ (c .before .before .pre .0 .known _ (entry-there c))
 
 sub-left : tie.Need-sub-left Inv-loop μ-loop
 sub-left c = c .loop-test .taken
 
-mul-key : tie.Need-mul-key Inv-loop μ-loop
-mul-key c = index-fits _ (entry-below c) refl
+mul-code : tie.Need-mul-code Inv-loop μ-loop
+mul-code c = index-fits _ (entry-below c) refl
 
-element-copy-out-key : tie.Need-element-copy-out-key Inv-loop μ-loop
-element-copy-out-key c = entry-below c
+element-copy-out-code : tie.Need-element-copy-out-code Inv-loop μ-loop
+element-copy-out-code c = entry-below c
 
 mul-next : tie.Need-mul-next Inv-loop μ-loop
-mul-next c = index-fits _ (key-known (c .before)) refl
+mul-next c = index-fits _ (code-known (c .before)) refl
 
 element-copy-out-next : tie.Need-element-copy-out-next Inv-loop μ-loop
-element-copy-out-next c = key-known (c .before)
+element-copy-out-next c = code-known (c .before)
 
 add-nexts : tie.Need-add-nexts Inv-loop μ-loop
 add-nexts c = below-fits (entry-place (c .before .before)) refl
@@ -58,10 +58,10 @@ element-write-nexts : tie.Need-element-write-nexts Inv-loop μ-loop
 element-write-nexts c = entry-place (c .before .before)
 
 mul-nexts-2 : tie.Need-mul-nexts-2 Inv-loop μ-loop
-mul-nexts-2 c = index-fits _ (key-known (c .before .before)) refl
+mul-nexts-2 c = index-fits _ (code-known (c .before .before)) refl
 
 element-write-nexts-2 : tie.Need-element-write-nexts-2 Inv-loop μ-loop
-element-write-nexts-2 c = key-known (c .before .before)
+element-write-nexts-2 c = code-known (c .before .before)
 
 loop-less : tie.Need-loop-less Inv-loop μ-loop
 loop-less c = omega (arith, c .before .before .loop-test .taken)
@@ -80,8 +80,8 @@ thread-on-spec =
     μ-loop
     loop-holds
     sub-left
-    mul-key
-    element-copy-out-key
+    mul-code
+    element-copy-out-code
     mul-next
     element-copy-out-next
     add-nexts

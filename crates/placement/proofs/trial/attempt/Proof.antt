@@ -1,10 +1,10 @@
 -- `placement::trial::attempt` meets its contract.
 use mathlib.Core.Path.{refl, sym}
-use Prim.Native.Nat.{ℕ, _-_, _+_, _*_, _^_, _<_, _≤_}
+use Prim.Native.Nat.{ℕ, _+_, _*_, _^_, _<_, _≤_}
 use native.Mathlib.Omega.{arith}
 use Rattle.rules.specs.Words.{most-messages}
 use Rattle.rules.specs.Bounds.{largest-cost}
-use Rattle.rules.proofs.Sums.{below-fits, next-fits, index-fits}
+use Rattle.rules.proofs.Sums.{next-fits, index-fits}
 use Rattle.placement.proofs.Attempts.{attempt-searchable, attempt-there, ask-own, own-figures, attempt-made}
 use Rattle.placement.proofs.Threading.{machine-known, threaded-kept}
 use Rattle.placement.proofs.trial.attempt.Statement.{statement}
@@ -38,11 +38,11 @@ task-row-requires c κs =
     let pre = start-2 (c .before .before .before .before) .pre in
     ask-own (pre .0) (c .before .before .before .before .try-messages .ensures) (pre .1 .1) (c .least-free .result) (c .least-free .ensures)
 
-own-cost-fits : (n : ℕ) → n ≤ (most-messages + 1) * largest-cost → n < 2 ^ 63
+own-cost-fits : (n : ℕ) → n ≤ (most-messages + 1) * largest-cost → n < 2 ^ 64
 own-cost-fits n h = omega arith
 
 own-at : (c : tie.After-rows) → (try-messages-done (c .before .before) .try-messages .result .count < most-messages + 1) ×
-    (try-messages-done (c .before .before) .try-messages .result .cost + c .before .task-row .result .cost < 2 ^ 63)
+    (try-messages-done (c .before .before) .try-messages .result .cost + c .before .task-row .result .cost < 2 ^ 64)
 own-at c =
     let start = start-2 (try-messages-done (c .before .before)) in
     let figures
@@ -66,7 +66,7 @@ add-t26 : tie.Need-add-t26
 add-t26 c = next-fits (own-at c .0) refl
 
 add-t30 : tie.Need-add-t30
-add-t30 c = below-fits (own-at (c .before .before) .1) refl
+add-t30 c = let few = own-at (c .before .before) .1 in omega arith
 
 returns : tie.Need-returns
 returns c =

@@ -152,7 +152,7 @@ row-is-fit :
     (c : tie.After-try-message Inv-loop μ-loop) →
     let at = head (tested-1 (crosses-done (c .before))) in
     (at .before .before .args .used + at .loop .count < room) × Numbered (c .try-message .result .holder) × (at .loop .count < most-messages + 1) ×
-    (at .loop .cost + c .try-message .result .cost < 2 ^ 63)
+    (at .loop .cost + c .try-message .result .cost < 2 ^ 64)
 row-is-fit c =
     let across = c .before .before .before .before in
     let turn = turn-2 (across .before .before .before .before) in
@@ -171,7 +171,7 @@ array-set-from-rows : tie.Need-array-set-from-rows Inv-loop μ-loop
 array-set-from-rows c = row-is-fit (c .before .before .before .before) .2
 
 add-cost : tie.Need-add-cost Inv-loop μ-loop
-add-cost c = below-fits (row-is-fit (try-message-done (c .before .before)) .3) refl
+add-cost c = let few = row-is-fit (try-message-done (c .before .before)) .3 in omega arith
 
 add-count : tie.Need-add-count Inv-loop μ-loop
 add-count c = let few = row-is-fit (try-message-done (c .before .before)) .2 in omega arith

@@ -1,14 +1,15 @@
 -- `reference::checks::hopeless_task` is safe and ends: its loop has a turn for each of the 16 tasks. Assumes nothing.
-use Prim.Native.Nat.{_≤_, _-_}
+use Prim.Native.Nat.{_+_, _≤_, _-_}
 use borrow.Author.Needs.{needs}
+use Rattle.reference.proofs.Sizes.{most-tasks}
 use Rattle.reference.proofs.checks.hopeless_task.Statement.{statement}
 use Rattle.reference.proofs.checks.hopeless_task.Tie as tie
 
 abbrev Inv-loop : tie.InvT-loop
-Inv-loop clock job lowest₀ task₀ lowest task = task ≤ 17
+Inv-loop clock job lowest₀ task₀ lowest task = task ≤ most-tasks + 1
 
 abbrev μ-loop : tie.MeasureT-loop
-μ-loop clock job lowest₀ task₀ lowest task = 17 - task
+μ-loop clock job lowest₀ task₀ lowest task = most-tasks + 1 - task
 
 pub hopeless-task-spec : {M : Type 1} → statement M
 hopeless-task-spec =

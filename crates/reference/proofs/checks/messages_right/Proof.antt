@@ -1,14 +1,15 @@
 -- `reference::checks::messages_right` is safe and ends: its loop has a turn for each of the 32 messages. Assumes nothing.
 use Prim.Native.Nat.{_≤_, _-_}
 use borrow.Author.Needs.{needs}
+use Rattle.reference.proofs.Sizes.{most-messages}
 use Rattle.reference.proofs.checks.messages_right.Statement.{statement}
 use Rattle.reference.proofs.checks.messages_right.Tie as tie
 
 abbrev Inv-loop : tie.InvT-loop
-Inv-loop job right₀ before₀ index₀ right before index = index ≤ 32
+Inv-loop job right₀ before₀ index₀ right before index = index ≤ most-messages
 
 abbrev μ-loop : tie.MeasureT-loop
-μ-loop job right₀ before₀ index₀ right before index = 32 - index
+μ-loop job right₀ before₀ index₀ right before index = most-messages - index
 
 pub messages-right-spec : {M : Type 1} → statement M
 messages-right-spec =

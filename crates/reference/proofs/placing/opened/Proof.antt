@@ -1,14 +1,15 @@
 -- `reference::placing::opened` is safe and ends: its loop has a turn for each of the 256 rows. Assumes nothing.
 use Prim.Native.Nat.{_≤_, _-_}
 use borrow.Author.Needs.{needs}
+use Rattle.reference.proofs.Sizes.{most-rows}
 use Rattle.reference.proofs.placing.opened.Statement.{statement}
 use Rattle.reference.proofs.placing.opened.Tie as tie
 
 abbrev Inv-loop : tie.InvT-loop
-Inv-loop scheduling book plan₀ i₀ plan i = i ≤ 256
+Inv-loop scheduling book plan₀ i₀ plan i = i ≤ most-rows
 
 abbrev μ-loop : tie.MeasureT-loop
-μ-loop scheduling book plan₀ i₀ plan i = 256 - i
+μ-loop scheduling book plan₀ i₀ plan i = most-rows - i
 
 pub opened-spec : {M : Type 1} → statement M
 opened-spec =

@@ -1,14 +1,15 @@
 -- `reference::placing::with_inputs` is safe and ends: its loop has a turn for each of the 32 messages. Assumes nothing.
 use Prim.Native.Nat.{_≤_, _-_}
 use borrow.Author.Needs.{needs}
+use Rattle.reference.proofs.Sizes.{most-messages}
 use Rattle.reference.proofs.placing.with_inputs.Statement.{statement}
 use Rattle.reference.proofs.placing.with_inputs.Tie as tie
 
 abbrev Inv-loop : tie.InvT-loop
-Inv-loop task machine job inputs₀ index₀ inputs index = index ≤ 32
+Inv-loop task machine job inputs₀ index₀ inputs index = index ≤ most-messages
 
 abbrev μ-loop : tie.MeasureT-loop
-μ-loop task machine job inputs₀ index₀ inputs index = 32 - index
+μ-loop task machine job inputs₀ index₀ inputs index = most-messages - index
 
 pub with-inputs-spec : {M : Type 1} → statement M
 with-inputs-spec =

@@ -1,14 +1,15 @@
 -- `reference::rows::of_job` is safe and ends: its loop has a turn for each of the 256 rows. Assumes nothing.
 use Prim.Native.Nat.{_≤_, _-_}
 use borrow.Author.Needs.{needs}
+use Rattle.reference.proofs.Sizes.{most-rows}
 use Rattle.reference.proofs.rows.of_job.Statement.{statement}
 use Rattle.reference.proofs.rows.of_job.Tie as tie
 
 abbrev Inv-loop : tie.InvT-loop
-Inv-loop number book held₀ i₀ held i = i ≤ 256
+Inv-loop number book held₀ i₀ held i = i ≤ most-rows
 
 abbrev μ-loop : tie.MeasureT-loop
-μ-loop number book held₀ i₀ held i = 256 - i
+μ-loop number book held₀ i₀ held i = most-rows - i
 
 pub of-job-spec : {M : Type 1} → statement M
 of-job-spec =

@@ -1,14 +1,15 @@
 -- `reference::rows::seen` is safe and ends: its loop has a turn for each of the 256 rows. Assumes nothing.
 use Prim.Native.Nat.{_≤_, _-_}
 use borrow.Author.Needs.{needs}
+use Rattle.reference.proofs.Sizes.{most-rows}
 use Rattle.reference.proofs.rows.seen.Statement.{statement}
 use Rattle.reference.proofs.rows.seen.Tie as tie
 
 abbrev Inv-loop : tie.InvT-loop
-Inv-loop machine tick book found₀ i₀ found i = i ≤ 256
+Inv-loop machine tick book found₀ i₀ found i = i ≤ most-rows
 
 abbrev μ-loop : tie.MeasureT-loop
-μ-loop machine tick book found₀ i₀ found i = 256 - i
+μ-loop machine tick book found₀ i₀ found i = most-rows - i
 
 pub seen-spec : {M : Type 1} → statement M
 seen-spec =

@@ -1,14 +1,15 @@
 -- `reference::rows::without_finished` is safe and ends: its loop has a turn for each of the 256 rows. Assumes nothing.
 use Prim.Native.Nat.{_≤_, _-_}
 use borrow.Author.Needs.{needs}
+use Rattle.reference.proofs.Sizes.{most-rows}
 use Rattle.reference.proofs.rows.without_finished.Statement.{statement}
 use Rattle.reference.proofs.rows.without_finished.Tie as tie
 
 abbrev Inv-loop : tie.InvT-loop
-Inv-loop book left₀ i₀ left i = i ≤ 256
+Inv-loop book left₀ i₀ left i = i ≤ most-rows
 
 abbrev μ-loop : tie.MeasureT-loop
-μ-loop book left₀ i₀ left i = 256 - i
+μ-loop book left₀ i₀ left i = most-rows - i
 
 pub without-finished-spec : {M : Type 1} → statement M
 without-finished-spec =

@@ -44,21 +44,21 @@ fill-requires c κs =
     ask-fill (r .setup) (r .clock + start at .args .job .scheduling) (r .rows) (r .count) (start at .args .job) (ask-at at) (start at .pre .long) refl
     (record { resources-long = refl; starts-long = refl; finishes-long = refl })
 
-abbrev passed : tie.After-fill → tie.Else1
-passed c = tested-1 (c .before .before)
+abbrev past-early : tie.After-fill → tie.Else1
+past-early c = tested-1 (c .before .before)
 
 is-held-requires : tie.Need-is-held-requires
-is-held-requires c κs = start (passed (c .before)) .pre .count-at-most
+is-held-requires c κs = start (past-early (c .before)) .pre .count-at-most
 
 -- the test is the rules'
 held-at : (c : tie.After-is-held) → let at =
-    start (passed (c .before .before)) in c .is-held .result ≡ view (state-of (at .args .register)) .held (at .args .job .number)
-held-at c = c .is-held .ensures _ (c .before .before .fill .ensures .0) (start (passed (c .before .before)) .pre .long)
+    start (past-early (c .before .before)) in c .is-held .result ≡ view (state-of (at .args .register)) .held (at .args .job .number)
+held-at c = c .is-held .ensures _ (c .before .before .fill .ensures .0) (start (past-early (c .before .before)) .pre .long)
 
 returns-2 : tie.Need-returns-2
 returns-2 c =
     let tested = c .before .before in
-    let at = passed (tested .before .before) in
+    let at = past-early (tested .before .before) in
     let valid = start at .pre in
     judges-refused valid (submit-5 valid (at .before .early .ensures) (at .if1 .left) (sym (held-at tested) ∙ c .before .if2 .taken)) _
     (c .refused-verdict2 .ensures)
@@ -68,12 +68,12 @@ returns-2 c =
 abbrev filled : tie.Else2 → tie.After-fill
 filled c = c .before .before .before
 
-free-at : (c : tie.Else2) → let at = start (passed (filled c)) in view (state-of (at .args .register)) .held (at .args .job .number) ≡ false
+free-at : (c : tie.Else2) → let at = start (past-early (filled c)) in view (state-of (at .args .register)) .held (at .args .job .number) ≡ false
 free-at c = sym (held-at (c .before)) ∙ c .if2 .left
 
 first-infeasible-requires : tie.Need-first-infeasible-requires
 first-infeasible-requires c κs =
-    let at = passed (filled c) in
+    let at = past-early (filled c) in
     let valid = start at .pre in
     let range = at .before .early .ensures .in-range (at .if1 .left) in
     record { figures = record { room = valid .sound .room; counts = range .counts }; in-range = range .figures; clock-at-most = valid .bounded .clock }
@@ -81,7 +81,7 @@ first-infeasible-requires c κs =
 returns-3 : tie.Need-returns-3
 returns-3 c =
     let tested = c .before .before in
-    let at = passed (filled (tested .before)) in
+    let at = past-early (filled (tested .before)) in
     let valid = start at .pre in
     judges-refused
     valid
@@ -99,28 +99,28 @@ free c = feasible c .before .before
 
 add-base : tie.Need-add-base
 add-base c =
-    let at = passed (filled (c .before .before .before .before)) in
+    let at = past-early (filled (c .before .before .before .before)) in
     at-most-fits (ask-at at .base-at-most) refl
 
 place-requires : tie.Need-place-requires
 place-requires c κs =
     let columns = filled (free c) in
-    let at = passed columns in
+    let at = past-early columns in
     record { held = start at .args .register .rows; ask = ask-at at; widths = columns .fill .ensures .1 .0; mirrors = columns .fill .ensures .1 .1 }
 
 -- what placing found is what the rules place
-found-at : (c : tie.After-place) → let at = start (passed (filled (free (c .before)))) in let r = at .args .register in
+found-at : (c : tie.After-place) → let at = start (past-early (filled (free (c .before)))) in let r = at .args .register in
     PlacementIs (r .setup) (r .clock + at .args .job .scheduling) (r .rows) (r .count) (at .args .job) (c .place .result)
-found-at c = let columns = filled (free (c .before)) in c .place .ensures _ (ask-at (passed columns)) (columns .fill .ensures .1 .1)
+found-at c = let columns = filled (free (c .before)) in c .place .ensures _ (ask-at (past-early columns)) (columns .fill .ensures .1 .1)
 
 settled-requires : tie.Need-settled-requires
 settled-requires c κs =
-    record { count-at-most = start (passed (filled (free (c .before)))) .pre .count-at-most; found-at-most = found-at c .count-at-most }
+    record { count-at-most = start (past-early (filled (free (c .before)))) .pre .count-at-most; found-at-most = found-at c .count-at-most }
 
 returns-4 : tie.Need-returns-4
 returns-4 c =
     let placed = c .before .before in
-    let at = passed (filled (free placed)) in
+    let at = past-early (filled (free placed)) in
     judges-settled
     (start at .pre)
     (at .before .early .ensures)

@@ -1,12 +1,12 @@
 -- `script::listing::put_message_row` meets its contract: seven fields, one after the other.
-use Prim.Native.Nat.{_+_, _≤_}
+use Prim.Native.Nat.{_+_, _-_, _≤_}
 use native.Mathlib.Omega.{arith}
 use lib.ListN.{length}
 use borrow.Author.Needs.{needs}
 use Rattle.script.specs.Keys.{job-key, from-key, to-key}
 use Rattle.script.specs.Replies.{task-key}
 use Rattle.script.specs.Listing.{link-key, start-key, finish-key, message-listed}
-use Rattle.script.specs.Parts.{most-row}
+use Rattle.script.specs.Parts.{field-room, most-row}
 use Rattle.script.proofs.Fields.{PutWithin, first-field, within-field, at-most}
 use Rattle.script.proofs.listing.put_message_row.Statement.{statement}
 use Rattle.script.proofs.listing.put_message_row.Tie as tie
@@ -38,7 +38,7 @@ abbrev first : tie.After-put-any-field6 → tie.After-put-any-field
 first c = output-1 (output-2 (output-3 (output-4 (output-5 c .before) .before) .before) .before) .before
 
 -- the room that the first field leaves
-left : (c : tie.After-put-any-field) → c .put-any-field .result + 156 ≤ length (c .put-any-field .last .0)
+left : (c : tie.After-put-any-field) → c .put-any-field .result + (most-row - field-room link-key) ≤ length (c .put-any-field .last .0)
 left c = search needs
 
 written :

@@ -4,6 +4,7 @@ use borrow.Author.Needs.{needs}
 use Rattle.script.specs.Keys.{job-key}
 use Rattle.script.specs.Replies.{task-key}
 use Rattle.script.specs.Listing.{machine-key, start-key, finish-key, task-listed}
+use Rattle.script.specs.Parts.{most-task-row}
 use Rattle.script.proofs.Fields.{PutWithin, first-field, within-field}
 use Rattle.script.proofs.listing.put_task_row.Statement.{statement}
 use Rattle.script.proofs.listing.put_task_row.Tie as tie
@@ -31,7 +32,7 @@ first c = output-1 (output-2 (output-3 (output-4 c .before) .before) .before) .b
 written :
     (c : tie.After-put-any-field5) →
     let a = start (first c) .args in
-    PutWithin (a .output .now) (a .at) (task-listed (a .machine) (a .task) (a .row)) (c .put-any-field5 .last .0) (c .put-any-field5 .result) 135
+    PutWithin (a .output .now) (a .at) (task-listed (a .machine) (a .task) (a .row)) (c .put-any-field5 .last .0) (c .put-any-field5 .result) most-task-row
 written c =
     let fourth = output-4 c .before in
     let third = output-3 fourth .before in

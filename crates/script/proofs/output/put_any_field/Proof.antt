@@ -1,15 +1,16 @@
 -- `script::output::put_any_field` meets its contract: a 64-bit number has twenty digits at the most.
-use Prim.Native.Nat.{_+_, _≤_}
+use Prim.Native.Nat.{_≤_}
 use native.Mathlib.Omega.{arith}
 use lib.ListN.{length}
 use borrow.Author.Needs.{needs}
 use Rattle.lines.specs.Figures.{field}
 use Rattle.lines.proofs.Decimals.{word-length}
+use Rattle.script.specs.Parts.{field-room}
 use Rattle.lines.proofs.Put.{field-length}
 use Rattle.script.proofs.output.put_any_field.Statement.{statement}
 use Rattle.script.proofs.output.put_any_field.Tie as tie
 
-short : (s : tie.Start) → length (field (s .args .key .now) (s .args .n)) ≤ length (s .args .key .now) + 21
+short : (s : tie.Start) → length (field (s .args .key .now) (s .args .n)) ≤ field-room (s .args .key .now)
 short s =
     let long = field-length (s .args .key .now) (s .args .n) in
     let digits = word-length (s .args .n) (omega (arith, s .good)) in

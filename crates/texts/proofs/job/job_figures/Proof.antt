@@ -5,7 +5,7 @@ use native.Mathlib.Omega.{arith}
 use lib.ListN.{length, length-take, length-set}
 use borrow.Author.Needs.{needs}
 use Rattle.rules.specs.Words.{most-tasks, most-machines, no-task}
-use Rattle.texts.specs.JobText.{task-size, task-figures}
+use Rattle.texts.specs.JobText.{head-size, task-size, task-figures}
 use Rattle.texts.specs.Rows.{most-figures}
 use Rattle.texts.proofs.Figured.{tasks-within}
 use Rattle.rules.proofs.Indexed.{length-mapped}
@@ -14,26 +14,26 @@ use Rattle.texts.proofs.job.job_figures.Statement.{statement}
 use Rattle.texts.proofs.job.job_figures.Tie as tie
 
 abbrev Inv-loop : tie.InvT-loop
-Inv-loop row₀ machines job at₀ t₀ row at t = Laid (task-figures machines) (task-size machines) row₀ 3 (job .tasks) (job .taskcount) row at t
+Inv-loop row₀ machines job at₀ t₀ row at t = Laid (task-figures machines) (task-size machines) row₀ head-size (job .tasks) (job .taskcount) row at t
 
 abbrev μ-loop : tie.MeasureT-loop
 μ-loop row₀ machines job at₀ t₀ row at t = job .taskcount - t
 
-within : (s : tie.Start Inv-loop μ-loop) → s .args .t3 .taskcount * (2 + s .args .machines) ≤ most-tasks * task-size most-machines
+within : (s : tie.Start Inv-loop μ-loop) → s .args .t3 .taskcount * task-size (s .args .machines) ≤ most-tasks * task-size most-machines
 within s = tasks-within (s .pre .machines-at-most) (s .pre .tasks-at-most)
 
 -- the row keeps its length, and what is put in has its place
 row-long : (c : tie.At-loop Inv-loop μ-loop) → length (c .loop .row) ≡ most-figures
 row-long c = c .loop .inv .long ∙ simp length-set (c .before .pre .long)
 
-place : (c : tie.At-loop Inv-loop μ-loop) → c .loop .at ≤ 3 + most-tasks * task-size most-machines
+place : (c : tie.At-loop Inv-loop μ-loop) → c .loop .at ≤ head-size + most-tasks * task-size most-machines
 place c = omega (arith, laid-within (c .loop .inv), within (c .before))
 
 loop-holds : tie.Need-loop-holds Inv-loop μ-loop
 loop-holds c =
     let a = c .args in
     let long = c .pre .long in
-    laid-none (task-figures (a .machines)) (task-size (a .machines)) _ 3 (a .t3 .tasks) (a .t3 .taskcount) (simp length-set (omega arith))
+    laid-none (task-figures (a .machines)) (task-size (a .machines)) _ head-size (a .t3 .tasks) (a .t3 .taskcount) (simp length-set (omega arith))
 
 put-task-requires : tie.Need-put-task-requires Inv-loop μ-loop
 put-task-requires c κs =

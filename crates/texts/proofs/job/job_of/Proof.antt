@@ -1,6 +1,6 @@
 -- `texts::job::job_of` meets its contract: the counts say where the figures of tasks and of messages stand.
 use mathlib.Core.Path.{refl}
-use Prim.Native.Nat.{_+_, _*_, _≤_}
+use Prim.Native.Nat.{_*_, _≤_}
 use native.Mathlib.Omega.{arith}
 use lib.ListN.{getD}
 use borrow.Author.Needs.{needs}
@@ -11,7 +11,7 @@ use Rattle.texts.proofs.job.job_of.Statement.{statement}
 use Rattle.texts.proofs.job.job_of.Tie as tie
 
 -- the tasks' figures leave room for those of the messages
-within : (s : tie.Start) → getD (s .args .row .now) 2 0 * (2 + s .args .machines) ≤ most-tasks * task-size most-machines
+within : (s : tie.Start) → getD (s .args .row .now) 2 0 * task-size (s .args .machines) ≤ most-tasks * task-size most-machines
 within s = tasks-within (s .pre .machines-at-most) (s .pre .tasks-at-most)
 
 messages-in-requires : tie.Need-messages-in-requires

@@ -13,8 +13,8 @@ start c = c .before .before .before
 abbrev read : tie.After-enum-told → tie.After-read-form
 read c = c .before .before .before
 
-abbrev refused : tie.After-enum-told2 → tie.After-read-form
-refused c = c .before .before .before
+abbrev unread : tie.After-enum-told2 → tie.After-read-form
+unread c = c .before .before .before
 
 read-form-requires : tie.Need-read-form-requires
 read-form-requires c κs =
@@ -23,7 +23,7 @@ read-form-requires c κs =
 
 returns : tie.Need-returns
 returns c =
-    let at = refused (c .before) in
+    let at = unread (c .before) in
     let machines = start at .args .machines in
     let answer = at .read-form .ensures in
     job-read machines answer (c .blank-job .ensures ∙ blank-read machines answer (c .before .enum-told2 .given .1))

@@ -16,7 +16,7 @@ abbrev μ-loop : tie.MeasureT-loop
 μ-loop row machines index from many runs₀ m₀ runs m = many - m
 
 -- the task's figures lie within the row
-within : (s : tie.Start Inv-loop μ-loop) → s .args .index * (2 + s .args .machines) ≤ most-tasks * task-size most-machines
+within : (s : tie.Start Inv-loop μ-loop) → s .args .index * task-size (s .args .machines) ≤ most-tasks * task-size most-machines
 within s = tasks-within (s .pre .machines-at-most) (omega arith)
 
 loop-again : tie.Need-loop-again Inv-loop μ-loop

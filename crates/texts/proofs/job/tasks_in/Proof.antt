@@ -2,13 +2,13 @@
 use Prim.Native.Nat.{_-_}
 use borrow.Author.Needs.{needs}
 use Rattle.rules.specs.Words.{most-tasks}
-use Rattle.texts.specs.JobText.{task-said, task-size, blank-task}
+use Rattle.texts.specs.JobText.{head-size, task-said, task-size, blank-task}
 use Rattle.texts.proofs.Figured.{Filled, filled-none, filled-more, filled-all}
 use Rattle.texts.proofs.job.tasks_in.Statement.{statement}
 use Rattle.texts.proofs.job.tasks_in.Tie as tie
 
 abbrev Inv-loop : tie.InvT-loop
-Inv-loop row machines count tasks₀ i₀ tasks i = Filled task-said blank-task (task-size machines) most-tasks row 3 count tasks i
+Inv-loop row machines count tasks₀ i₀ tasks i = Filled task-said blank-task (task-size machines) most-tasks row head-size count tasks i
 
 abbrev μ-loop : tie.MeasureT-loop
 μ-loop row machines count tasks₀ i₀ tasks i = count - i
@@ -17,7 +17,7 @@ loop-holds : tie.Need-loop-holds Inv-loop μ-loop
 loop-holds c =
     let a = c .before .args in
     let none = c .blank-task in
-    filled-none task-said blank-task (task-size (a .machines)) most-tasks (a .row .now) 3 (a .count) (none .result) (none .ensures)
+    filled-none task-said blank-task (task-size (a .machines)) most-tasks (a .row .now) head-size (a .count) (none .result) (none .ensures)
 
 loop-again : tie.Need-loop-again Inv-loop μ-loop
 loop-again c =

@@ -1,8 +1,8 @@
--- `booking::listing::print_register` is safe and ends: the measure is the count of rows that are left.
+-- `booking::printing::print_register` is safe and ends: the measure is the count of rows that are left.
 use Prim.Native.Nat.{_-_}
 use native.Mathlib.Omega.{arith}
-use Rattle.booking.proofs.listing.print_register.Statement.{statement}
-use Rattle.booking.proofs.listing.print_register.Tie as tie
+use Rattle.booking.proofs.printing.print_register.Statement.{statement}
+use Rattle.booking.proofs.printing.print_register.Tie as tie
 
 abbrev Inv-loop : tie.InvT-loop
 Inv-loop register count i₀ i = Unit {0}

@@ -1,0 +1,2 @@
+-- What the proofs of the second scheduler share.
+pub mod Sizes

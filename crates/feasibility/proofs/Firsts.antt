@@ -32,12 +32,12 @@ module _ {s : Setup} {j : Job} where
     module _ (b : miscounted j ≡ false) where
       pub early-3 : out-of-range s j ≡ true → EarlyIs s j 3
       unfolding submit-tests
-      early-3 c = first-is 3 (λ v. counts-passed s v j a b .first (here refl (ap refuse-if c))) (λ z. omega arith)
+      early-3 c = first-is 3 (λ v. counts-passed s v j (number-passed s v j a) b .first (here refl (ap refuse-if c))) (λ z. omega arith)
 
       module _ (c : out-of-range s j ≡ false) where
         pub early-4 : bad-messages j ≡ true → EarlyIs s j 4
         unfolding submit-tests
-        early-4 d = first-is 4 (λ v. figures-passed s v j a b c .first (here refl (ap refuse-if d))) (λ z. omega arith)
+        early-4 d = first-is 4 (λ v. figures-passed s v j (counts-passed s v j (number-passed s v j a) b) c .first (here refl (ap refuse-if d))) (λ z. omega arith)
 
         pub early-0 : bad-messages j ≡ false → EarlyIs s j 0
         early-0 d = record { refused = λ ne. absurd (ne refl); in-range = λ _. record { number = a; counts = b; figures = c; messages = d } }

@@ -23,9 +23,9 @@ use Rattle.lines.proofs.Begun.{key-fits}
 pub part : (l : List ℕ) (n : ℕ) → take (length l - n) (drop n l) ≡ drop n l
 part l n = take-all (length l - n) (drop n l) (let e = length-drop n l in omega arith)
 
--- the keys are short
+-- the keys are short: none is longer than this one
 abbrev pub longest-key : ℕ
-longest-key = 9
+longest-key = length (key-bytes K.Deadline)
 
 pub key-size : (key : Key) → (1 ≤ length (key-bytes key)) × (length (key-bytes key) ≤ longest-key)
 key-size K.Job = omega arith

@@ -1,68 +1,24 @@
 -- Laws of columns that mirror rows: a resource's number is its own, and the spans that a search reads are those that the rules give.
 use mathlib.Core.Path.{_≡_, refl, sym, ap, _∙_}
-use mathlib.Core.Bool.{_&&_}
 use mathlib.Core.List.{List, [], _∷_, _++_, map, map-append, List·Memᴰ}
 use Prim.Native.Nat.{ℕ, zero, suc, _≤_, _<_}
 use native.Mathlib.Omega.{arith}
 use lib.Dec.{eqb}
 use lib.ListN.{length, length-append, length-set, getD, List·getD-append, take, set}
 use lib.Seq.{getD-set-same, getD-set-other, getD-at, take-suc, take-all}
-use borrow.Author.Tests.{eqb-true, eqb-false, eq-eqb, ne-eqb}
+use borrow.Author.Tests.{eqb-true, eqb-false}
 use Rattle.rules.specs.declared.Holder.{Holder}
-use Rattle.rules.specs.declared.Holder.the-variants.{TaskOn, MessageOn}
 use Rattle.rules.specs.declared.Row.{Row}
 use Rattle.rules.specs.Sequences.{cons-if, keep}
-use Rattle.rules.specs.Words.{Resource, machine, link, same, held-by, resource, span}
-use Rattle.rules.specs.Asked.{HasMachine, HasLink}
+use Rattle.rules.specs.Words.{Resource, same, held-by, resource, span}
 use Rattle.rules.specs.Placing.{spans-on, no-row}
-use Rattle.rules.proofs.Sequences.{by-test, clash, and-true, and-both, keep-append, getD-mem}
+use Rattle.rules.proofs.Sequences.{by-test, keep-append, getD-mem}
 use Rattle.rules.specs.Words.{holds, hold-of, Hold}
 use Rattle.rules.specs.Codes.{resource-number}
 use Rattle.rules.proofs.Resources.{holds-append}
+use Rattle.rules.proofs.Numbers.{code-same}
 use Rattle.placement.specs.Columns.{spans-of, room, Widths, Mirrors}
-use Rattle.rules.specs.Codes.{Numbered, on-machine, on-link}
-
--- The number of a resource.
-
-link-not-machine : (m a b : ℕ) → HasMachine m → HasLink a b → m ≡ resource-number (link a b) → ⊥
-link-not-machine m a b on ends e = omega arith
-
-link-parts : (a b c d : ℕ) → HasLink a b → HasLink c d → resource-number (link a b) ≡ resource-number (link c d) → (a ≡ c) × (b ≡ d)
-link-parts a b c d p q e = (omega arith, omega arith)
-
-pub code-injective : (g h : Holder) → Numbered g → Numbered h → resource-number (held-by g) ≡ resource-number (held-by h) → held-by g ≡ held-by h
-unfolding held-by
-code-injective (TaskOn m t) (TaskOn n u) (on-machine p) (on-machine q) e = ap machine e
-code-injective (TaskOn m t) (MessageOn a b x y) (on-machine p) (on-link q) e = absurd (link-not-machine m a b p q e)
-code-injective (MessageOn a b x y) (TaskOn m t) (on-link p) (on-machine q) e = absurd (link-not-machine m a b q p (sym e))
-code-injective (MessageOn a b x y) (MessageOn c d v w) (on-link p) (on-link q) e =
-    let parts = link-parts a b c d p q e in rw (parts .0, parts .1) refl
-
--- two links have equal numbers exactly if their machines are equal in turn
-link-same : (a b c d : ℕ) → HasLink a b → HasLink c d → eqb (resource-number (link a b)) (resource-number (link c d)) ≡ eqb a c && eqb b d
-link-same a b c d p q =
-    by-test
-    (eqb a c && eqb b d)
-    (λ h.
-    let both = and-true (eqb a c) (eqb b d) h in
-    let first = eqb-true a c (both .0) in
-    let second = eqb-true b d (both .1) in
-    eq-eqb (resource-number (link a b)) (resource-number (link c d)) (omega arith) ∙ sym h)
-    (λ h.
-    ne-eqb
-    (resource-number (link a b))
-    (resource-number (link c d))
-    (λ e. let parts = link-parts a b c d p q e in clash (and-both _ _ (eq-eqb a c (parts .0)) (eq-eqb b d (parts .1))) h)
-    ∙ sym h)
-
--- equal numbers are the rules' test of equal resources
-pub code-same : (g h : Holder) → Numbered g → Numbered h → eqb (resource-number (held-by g)) (resource-number (held-by h)) ≡ same (held-by g) (held-by h)
-unfolding held-by same
-code-same (TaskOn m t) (TaskOn n u) (on-machine p) (on-machine q) = refl
-code-same (TaskOn m t) (MessageOn a b x y) (on-machine p) (on-link q) = ne-eqb m (resource-number (link a b)) (link-not-machine m a b p q)
-code-same (MessageOn a b x y) (TaskOn m t) (on-link p) (on-machine q) =
-    ne-eqb (resource-number (link a b)) m (λ e. link-not-machine m a b q p (sym e))
-code-same (MessageOn a b x y) (MessageOn c d v w) (on-link p) (on-link q) = link-same a b c d p q
+use Rattle.rules.specs.Codes.{Numbered}
 
 -- Spans.
 

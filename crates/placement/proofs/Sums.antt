@@ -2,7 +2,8 @@
 use Prim.Native.Nat.{ℕ, _+_, _<_, _≤_}
 use native.Mathlib.Omega.{arith}
 use Rattle.rules.specs.Words.{row-limit}
-use Rattle.placement.specs.Threads.{resource-bound, nodes}
+use Rattle.rules.specs.Codes.{resource-bound}
+use Rattle.placement.specs.Threads.{nodes}
 
 pub thread-place : (i n : ℕ) → i < n → n ≤ row-limit → resource-bound + i < nodes
 thread-place i n h m = omega arith

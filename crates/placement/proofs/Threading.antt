@@ -8,21 +8,20 @@ use lib.ListN.{length, getD, set, replicate, length-set, length-replicate, getD-
 use lib.Seq.{getD-set-same, getD-set-other}
 use borrow.Author.Tests.{eqb-true, eqb-false, leb-true, leb-false}
 use Rattle.rules.proofs.Sequences.{by-test, getD-mem}
-use Rattle.rules.specs.Words.{row-limit, link, resource, held-by}
-use Rattle.rules.specs.Asked.{HasMachine, HasLink}
+use Rattle.rules.specs.Words.{row-limit, resource}
+use Rattle.rules.proofs.Numbers.{code-below}
 use Rattle.rules.specs.Placing.{no-row}
 use Rattle.rules.specs.declared.Row.{Row}
-use Rattle.rules.specs.declared.Holder.{Holder}
 use Rattle.rules.specs.declared.Job.{Job}
 use Rattle.rules.specs.declared.Setup.{Setup}
 use Rattle.rules.specs.Codes.{resource-number}
 use Rattle.placement.specs.Columns.{Mirrors}
-use Rattle.rules.specs.Codes.{Numbered, on-machine, on-link}
 use Rattle.placement.specs.Trials.{Same}
 use Rattle.placement.specs.Placements.{AskPlaceAmong}
 use Rattle.placement.proofs.Placed.{listed-numbered}
 use Rattle.placement.specs.Passes.{NextOf, AfterLastOf}
-use Rattle.placement.specs.Threads.{resource-bound, nodes, ThreadOn, ThreadBack, Keyed, Threaded, AskAlong}
+use Rattle.rules.specs.Codes.{resource-bound}
+use Rattle.placement.specs.Threads.{nodes, ThreadOn, ThreadBack, Coded, Threaded, AskAlong}
 
 -- Steps.
 
@@ -135,7 +134,7 @@ made-on-none rs count =
     }
 
 made-on-more :
-    {rs : List ℕ} {count : ℕ} {nexts : List ℕ} {left : ℕ} → Keyed rs count → MadeOn rs count nexts (left + 1) →
+    {rs : List ℕ} {count : ℕ} {nexts : List ℕ} {left : ℕ} → Coded rs count → MadeOn rs count nexts (left + 1) →
     MadeOn rs count (set (set nexts (resource-bound + left) (getD nexts (getD rs left 0) 0)) (getD rs left 0) left) left
 made-on-more {rs} {count} {nexts} {left} ask made =
     let within = made .within in
@@ -167,7 +166,7 @@ made-on-more {rs} {count} {nexts} {left} ask made =
     }
 
 pub made-on-down :
-    {rs : List ℕ} {count : ℕ} {nexts : List ℕ} {left : ℕ} → Keyed rs count → MadeOn rs count nexts left → 0 < left →
+    {rs : List ℕ} {count : ℕ} {nexts : List ℕ} {left : ℕ} → Coded rs count → MadeOn rs count nexts left → 0 < left →
     MadeOn rs count (set (set nexts (resource-bound + (left - 1)) (getD nexts (getD rs (left - 1) 0) 0)) (getD rs (left - 1) 0) (left - 1)) (left - 1)
 made-on-down {rs} {count} {nexts} {left} ask made more =
     let one : left ≡ left - 1 + 1 = omega arith in
@@ -207,7 +206,7 @@ made-back-none rs count =
     }
 
 pub made-back-more :
-    {rs : List ℕ} {count : ℕ} {backs : List ℕ} {i : ℕ} → Keyed rs count → MadeBack rs count backs i → i < count →
+    {rs : List ℕ} {count : ℕ} {backs : List ℕ} {i : ℕ} → Coded rs count → MadeBack rs count backs i → i < count →
     MadeBack rs count (set (set backs (resource-bound + i) (getD backs (getD rs i 0) 0)) (getD rs i 0) (i + 1)) (i + 1)
 made-back-more {rs} {count} {backs} {i} ask made more =
     let few = ask .few in
@@ -306,22 +305,10 @@ module _ {code : ℕ} {rs nexts backs : List ℕ} {held count : ℕ} (ask : (cod
   pub back-along : AskAlong code held × (held ≤ count) × ThreadBack rs held backs
   back-along = (record { few = ask .1 .few; known = ask .0 }, ask .1 .within, ask .1 .back)
 
--- the numbers of machines and links are known
-pub machine-known : {m : ℕ} → HasMachine m → m < resource-bound
-machine-known is = let last = is .last in omega arith
-
-pub link-known : {a b : ℕ} → HasLink a b → resource-number (link a b) < resource-bound
-link-known is = let source = is .source .last in let target = is .target .last in omega arith
-
-numbered-known : {h : Holder} → Numbered h → resource-number (held-by h) < resource-bound
-unfolding held-by
-numbered-known (on-machine is) = machine-known is
-numbered-known (on-link is) = link-known is
-
 -- the columns that placing reads are those of rows in range
-pub place-keyed : {s : Setup} {base : ℕ} {j : Job} {resources starts finishes : List ℕ} {count : ℕ} →
-    AskPlaceAmong s base j resources starts finishes count → Keyed resources count
-place-keyed {resources = resources} {count = count} among =
+pub place-coded : {s : Setup} {base : ℕ} {j : Job} {resources starts finishes : List ℕ} {count : ℕ} →
+    AskPlaceAmong s base j resources starts finishes count → Coded resources count
+place-coded {resources = resources} {count = count} among =
     let H = take count (among .held) in
     record {
       few = among .ask .count-at-most;
@@ -329,7 +316,7 @@ place-keyed {resources = resources} {count = count} among =
           λ i h.
           let there : i < length H = rw (among .mirrors .all) h in
           let is = among .ask .rows-in-range (getD H i no-row) (getD-mem H i no-row there) .holder in
-          rw (among .mirrors .resources-are i h) (numbered-known (listed-numbered (among .ask .sound) is));
+          rw (among .mirrors .resources-are i h) (code-below (listed-numbered (among .ask .sound) is));
     }
 
 -- the entries of the held rows stay as they were, and so their threads

@@ -1,16 +1,12 @@
 -- Between functions: threads through the columns, the held entries of each resource, from one to the next and from one to the one before.
 use mathlib.Core.Path.{_≡_}
 use mathlib.Core.List.{List}
-use Prim.Native.Nat.{ℕ, _+_, _*_, _≤_, _<_}
+use Prim.Native.Nat.{ℕ, _+_, _≤_, _<_}
 use lib.ListN.{getD}
 use Rattle.rules.specs.Words.{row-limit}
-use Rattle.rules.specs.Codes.{machine-bound}
+use Rattle.rules.specs.Codes.{resource-bound}
 use Rattle.placement.specs.Columns.{room}
 use Rattle.placement.specs.Passes.{NextOf, AfterLastOf}
-
--- the numbers of resources lie below this
-abbrev pub resource-bound : ℕ
-resource-bound = machine-bound * machine-bound
 
 -- a thread has a place for each resource, where it begins, then one for each entry
 abbrev pub nodes : ℕ
@@ -27,7 +23,7 @@ pub record ThreadBack (resources : List ℕ) (count : ℕ) (backs : List ℕ) : 
   pub back : (i : ℕ) → i < count → AfterLastOf (getD resources i 0) resources 0 i (getD backs (resource-bound + i) 0)
 
 -- the first entries are of resources that have a place in a thread
-pub record Keyed (resources : List ℕ) (count : ℕ) : Type 0 where
+pub record Coded (resources : List ℕ) (count : ℕ) : Type 0 where
   pub few : count ≤ row-limit
   pub known : (i : ℕ) → i < count → getD resources i 0 < resource-bound
 

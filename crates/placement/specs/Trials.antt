@@ -10,13 +10,13 @@ use Rattle.rules.specs.declared.Message.{Message}
 use Rattle.rules.specs.declared.Job.{Job}
 use Rattle.rules.specs.declared.Setup.{Setup}
 use Rattle.rules.specs.Sequences.{any-of}
-use Rattle.rules.specs.Words.{link, horizon, largest-time, largest-volume, most-messages, most-machines, messages-of, run-time}
+use Rattle.rules.specs.Words.{link, horizon, largest-time, largest-volume, most-tasks, most-messages, most-machines, messages-of, run-time}
 use Rattle.rules.specs.Placing.{least-free, transfer, message-booking, books-message, placed, into, message-trials, all-arrived, costs}
 use Rattle.rules.specs.Placing.{release as rules-release, Trial, trial-rows, try, choice}
 use Rattle.rules.specs.Laws.{IsTask}
 use Rattle.placement.specs.declared.Attempt.{Attempt}
 use Rattle.placement.specs.declared.choice.Kept.{Kept}
-use Rattle.rules.specs.Bounds.{Sound, Between, largest-cost}
+use Rattle.rules.specs.Bounds.{Sound, Between, largest-link-time, largest-cost}
 use Rattle.rules.specs.Demands.{InRange}
 use Rattle.rules.specs.Words.{holds}
 use Rattle.rules.specs.Placing.{on-rows}
@@ -43,7 +43,7 @@ pub record InputIs (s : Setup) (job : ℕ) (msg : Message) (a b done : ℕ) (res
 
 -- no tick of a trial lies past this, with k messages booked: those of a trial that is not good may pass the horizon
 abbrev pub reach : ℕ → ℕ
-reach k = 1_020_000_000 + k * 1_000_000
+reach k = horizon + (1 + most-tasks) * largest-time + k * (largest-link-time * largest-volume)
 
 -- where a sender stands
 pub record SenderAt (s : Setup) (machines finishes : List ℕ) (msg : Message) : Type 0 where

@@ -6,7 +6,8 @@ ghost use mathlib.Core.Path.{_≡_};
 ghost use Prim.Native.Nat.{ℕ, _+_, _^_, _≤_, _<_};
 ghost use Rattle.rules.specs.Placing.{least-free};
 ghost use Rattle.placement.specs.Columns.{room, spans-of, Searchable};
-ghost use Rattle.placement.specs.Threads.{resource-bound, ThreadOn, ThreadBack, Threaded, AskAlong, AskFollowing, AskPreceding};
+ghost use Rattle.rules.specs.Codes.{resource-bound};
+ghost use Rattle.placement.specs.Threads.{ThreadOn, ThreadBack, Threaded, AskAlong, AskFollowing, AskPreceding};
 ghost use Rattle.placement.specs.Passes.{beyond, swept, swept-back, AskEntry, NextOf, AfterLastOf};
 
 // Past a span that `len` ticks from `tick` on would meet.

@@ -4,11 +4,11 @@ use crate::RESOURCES;
 use crate::SPANS;
 ghost use mathlib.Core.Path.{_≡_};
 ghost use lib.ListN.{replicate};
-ghost use Rattle.placement.specs.Threads.{nodes, Keyed, ThreadOn, ThreadBack};
+ghost use Rattle.placement.specs.Threads.{nodes, Coded, ThreadOn, ThreadBack};
 
 // The first entry of each resource, and for each entry the next of its resource. The count, which each place has at first, says that there is none.
 pub fn thread_on<'a>(resources: &'a [u64; SPANS], count: usize, nexts: &'a mut [usize; NODES])
-    requires { ⌜ Keyed (now resources) count × (now nexts ≡ replicate nodes count) ⌝ }
+    requires { ⌜ Coded (now resources) count × (now nexts ≡ replicate nodes count) ⌝ }
     ensures { λ _. ⌜ ThreadOn (now (resources .entry)) count (now (nexts .exit)) ⌝ }
 {
     let mut left = count;
@@ -23,7 +23,7 @@ pub fn thread_on<'a>(resources: &'a [u64; SPANS], count: usize, nexts: &'a mut [
 
 // The same backwards: the place after the last entry of each resource, and after the one before each entry; 0 where there is none.
 pub fn thread_back<'a>(resources: &'a [u64; SPANS], count: usize, backs: &'a mut [usize; NODES])
-    requires { ⌜ Keyed (now resources) count × (now backs ≡ replicate nodes 0) ⌝ }
+    requires { ⌜ Coded (now resources) count × (now backs ≡ replicate nodes 0) ⌝ }
     ensures { λ _. ⌜ ThreadBack (now (resources .entry)) count (now (backs .exit)) ⌝ }
 {
     let mut i: usize = 0;

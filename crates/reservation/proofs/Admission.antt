@@ -9,6 +9,7 @@ use lib.Seq.{take-suc, take-suc-set, getD-set-other, length-take-le}
 use Rattle.rules.specs.declared.Row.{Row}
 use Rattle.rules.specs.Words.{row-limit}
 use Rattle.rules.specs.Placing.{no-row}
+use Rattle.rules.specs.Withdrawing.{admit}
 use Rattle.placement.specs.declared.place.Placement.{Placement}
 use Rattle.placement.proofs.Placed.{costs-at-most}
 use Rattle.reservation.specs.declared.Register.{Register}
@@ -67,6 +68,7 @@ module _ {r : Register} {found : Placement} (ask : AskAdmit r found) where
   pub filled :
       {rows : List Row} {i : ℕ} → Filling r found rows i → found .count ≤ i →
       Admits r found (record { setup = r .setup; clock = r .clock; count = r .count + found .count; rows = rows; total = r .total + found .cost })
+  unfolding admit
   filled {rows} {i} f h =
       let within = f .within in
       let all : i ≡ found .count = omega arith in
@@ -82,4 +84,4 @@ module _ {r : Register} {found : Placement} (ask : AskAdmit r found) where
       let rows-are : rows ≡ (kept ++ new) ++ replicate (row-limit - length (kept ++ new)) no-row
       = blank-rest rows (r .count + found .count) (done .long) fits (done .blank)
       ∙ ap₂ (λ l k. l ++ replicate (row-limit - k) no-row) (done .rows-are) count-is in
-      λ i. record { setup = r .setup; clock = r .clock; count = count-is i; rows = rows-are i; total = r .total + found .cost }
+      λ i. record { setup = r .setup; clock = r .clock; count = count-is i; rows = rows-are i; total = r .total + ask .cost-is i }

@@ -1,7 +1,7 @@
 -- A call on a valid register, refused or accepted, as a step of the rules.
 use mathlib.Core.Path.{_≡_, refl, sym, ap, ap₂, _∙_, subst}
 use mathlib.Core.Bool.{Bool, true, false, not}
-use mathlib.Core.List.{List, _++_, append-nil, Memᴰ·append-right}
+use mathlib.Core.List.{List, append-nil, Memᴰ·append-right}
 use mathlib.Core.Option.{none}
 use Prim.Native.Nat.{ℕ, _+_, _-_, _≤_, _<_}
 use native.Mathlib.Omega.{arith}
@@ -18,17 +18,16 @@ use Rattle.rules.specs.Words.{State, View, view, of-job, row-limit, horizon}
 use Rattle.rules.specs.Asked.{named}
 use Rattle.rules.specs.Placing.{no-row, costs, booked}
 use Rattle.rules.specs.Withdrawing.{admit, withdraw, advance, remove, ended}
-use Rattle.rules.specs.Refusals.{refuse-if, refusal, accepted, first-infeasible, placing, found, submit-tests, withdraw-tests, withdraw-answer}
+use Rattle.rules.specs.Refusals.{refuse-if, refusal, accepted, first-infeasible, missed, placing, found, submit-tests, withdraw-tests, withdraw-answer}
 use Rattle.rules.specs.Refusals.{advance-tests, advance-answer, Call, submits, withdraws, advances, settle, step}
 use Rattle.rules.specs.Demands.{here, end}
 use Rattle.rules.specs.Bounds.{Bounded}
 use Rattle.rules.proofs.Sequences.{by-test, keep-all, keep-none}
 use Rattle.rules.proofs.Demand1.{judged-first, judged-passed}
-use Rattle.rules.proofs.Tests.{LeftAfter, all-left, passed, in-range-passed}
+use Rattle.rules.proofs.Tests.{LeftAfter, all-left, passed, in-range-passed, held-passed, feasible-passed, placing-passed}
 use Rattle.rules.proofs.Struck.{step-still}
 use Rattle.rules.proofs.Bounds.{bounded-step, scheduling-figure}
 use Rattle.feasibility.specs.Tests.{EarlyIs}
-use Rattle.feasibility.proofs.Firsts.{first-answers}
 use Rattle.placement.specs.Columns.{ColumnOf}
 use Rattle.placement.specs.Placements.{most-own, none-placed, placing-of, AskPlace, PlacementIs}
 use Rattle.placement.specs.declared.place.Placement.{Placement}
@@ -37,9 +36,9 @@ use Rattle.reservation.specs.declared.Register.{Register}
 use Rattle.reservation.specs.Registers.{state-of, register-of, Valid}
 use Rattle.reservation.specs.declared.submission.Verdict.{Verdict}
 use Rattle.reservation.specs.Calls.{Steps}
-use Rattle.reservation.specs.Parts.{AskAdmit, Admits, refused-verdict, Settles, Judges, RemovalIs, no-removal, with-found}
+use Rattle.reservation.specs.Parts.{AskAdmit, Admits, refused-verdict, Settles, Judges, RemovalIs, no-removal}
 use Rattle.reservation.proofs.Values.{register-same, register-valid}
-use Rattle.reservation.proofs.Answers.{answer-6, answer-7, answer-8, answer-0, admitted-left}
+use Rattle.reservation.proofs.Answers.{answer-5, answer-6, answer-7, answer-8, answer-0, admitted-left}
 
 module _ {r : Register} (valid : Valid r) (c : Call) (a : Answer) (is : step (r .setup) (state-of r) c .answer ≡ a) where
   -- a refusal leaves the very same register
@@ -75,11 +74,12 @@ module _ {r : Register} (valid : Valid r) where
     found-long = length-replicate most-own no-row;
     found-at-most = omega arith;
     fits = let c = valid .count-at-most in omega arith;
+    cost-is = refl;
     cost-at-most = omega arith;
   }
 
   pub admits-none : {left : Register} → Admits r (none-placed 0) left → left ≡ r
-  unfolding none-placed
+  unfolding none-placed admit
   admits-none ad =
       let rows-same = append-nil (take (r .count) (r .rows)) in
       let total-same : r .total + 0 ≡ r .total = omega arith in
@@ -114,16 +114,14 @@ module _ {r : Register} (valid : Valid r) {j : Job} {n : ℕ} (early : EarlyIs (
     in-range = early .in-range z;
   }
 
+  -- what is left to make: each test that was passed leaves the next one
+  left-in-range : n ≡ 0 → LeftAfter 4 (submit-tests (r .setup) (view (state-of r)) j)
+  left-in-range z = in-range-passed (r .setup) (view (state-of r)) j (early .in-range z)
+
   pub submit-5 : n ≡ 0 → view (state-of r) .held (j .number) ≡ true → Steps r (submits j) (record { answer = refusal 5 0; register = r })
-  unfolding step settle submit-tests
+  unfolding step settle
   submit-5 z e =
-      let range = early .in-range z in
-      refused-steps
-      valid
-      (submits j)
-      (refusal 5 0)
-      (first-answers (r .setup) (view (state-of r)) j (in-range-passed (r .setup) (view (state-of r)) j range .first (here refl (ap refuse-if e))))
-      (λ x. omega arith)
+      refused-steps valid (submits j) (refusal 5 0) (answer-5 (r .setup) (view (state-of r)) j (left-in-range z) e) (λ x. omega arith)
 
   module _ (z : n ≡ 0) (free : view (state-of r) .held (j .number) ≡ false) where
     abbrev s : Setup
@@ -132,15 +130,21 @@ module _ {r : Register} (valid : Valid r) {j : Job} {n : ℕ} (early : EarlyIs (
     abbrev v : View
     v = view (state-of r)
 
+    left-free : LeftAfter 5 (submit-tests s v j)
+    left-free = held-passed s v j (left-in-range z) free
+
     pub submit-6 : (t : ℕ) → named t ≡ first-infeasible s (r .clock) j → (t ≡ 0 → ⊥) → Steps r (submits j) (record { answer = refusal 6 t; register = r })
     unfolding step settle
     submit-6 t e ne =
-        refused-steps valid (submits j) (refusal 6 t) (answer-6 s v j (early .in-range z) free (next-some t ne e)) (λ x. omega arith)
+        refused-steps valid (submits j) (refusal 6 t) (answer-6 s v j left-free (next-some t ne e)) (λ x. omega arith)
 
     module _ {t : ℕ} (feasible : named t ≡ first-infeasible s (r .clock) j) (none-such : t ≡ 0) {found : Placement}
         (is : PlacementIs s (r .clock + j .scheduling) (r .rows) (r .count) j found) where
       no-infeasible : first-infeasible s (r .clock) j ≡ none
       no-infeasible = next-none none-such feasible
+
+      left-feasible : LeftAfter 6 (submit-tests s v j)
+      left-feasible = feasible-passed s v j left-free no-infeasible
 
       pub submit-7 : (found .late ≡ 0 → ⊥) → Steps r (submits j) (record { answer = refusal 7 (found .late); register = r })
       unfolding step settle placing
@@ -153,9 +157,7 @@ module _ {r : Register} (valid : Valid r) {j : Job} {n : ℕ} (early : EarlyIs (
           s
           v
           j
-          (early .in-range z)
-          free
-          no-infeasible
+          left-feasible
           (sym (is .is) ∙ placing-late (take (found .count) (found .rows)) (found .late) (omega (arith, ne))))
           (λ x. omega arith)
 
@@ -166,6 +168,10 @@ module _ {r : Register} (valid : Valid r) {j : Job} {n : ℕ} (early : EarlyIs (
         rows-found : placing s v j ≡ booked rows
         unfolding placing
         rows-found = sym (is .is) ∙ ap (λ k. placing-of k rows) in-time
+
+        left-placed : LeftAfter 7 (submit-tests s v j)
+        unfolding missed
+        left-placed = placing-passed s v j left-feasible (ap missed rows-found)
 
         held-length : length (take (r .count) (r .rows)) ≡ r .count
         held-length = length-take-le (r .count) (r .rows) (let l = valid .long in let c = valid .count-at-most in omega arith)
@@ -180,16 +186,7 @@ module _ {r : Register} (valid : Valid r) {j : Job} {n : ℕ} (early : EarlyIs (
             valid
             (submits j)
             (refusal 8 0)
-            (answer-8
-            s
-            v
-            j
-            (early .in-range z)
-            free
-            no-infeasible
-            rows
-            rows-found
-            (let a = held-length in let b = found-length in omega arith))
+            (answer-8 s v j rows rows-found left-placed (let a = held-length in let b = found-length in omega arith))
             (λ x. omega arith)
 
         module _ (fits : r .count + found .count ≤ row-limit) where
@@ -199,7 +196,7 @@ module _ {r : Register} (valid : Valid r) {j : Job} {n : ℕ} (early : EarlyIs (
           answered : step s (state-of r) (submits j) .answer ≡ admission
           unfolding step settle
           answered =
-              answer-0 s v j (early .in-range z) free no-infeasible rows rows-found (let a = held-length in let b = found-length in omega arith)
+              answer-0 s v j rows rows-found left-placed (let a = held-length in let b = found-length in omega arith)
               ∙ ap₂ (λ c k. record { number = 0; task = 0; cost = c; rows = k }) (sym (is .cost-is)) found-length
 
           left-admits : step s (state-of r) (submits j) .left ≡ admit (state-of r) rows
@@ -215,14 +212,10 @@ module _ {r : Register} (valid : Valid r) {j : Job} {n : ℕ} (early : EarlyIs (
               let cost = is .cost-is in
               let few = is .count-at-most in
               let all = found-length in
-              record { valid = valid; found-long = is .long; found-at-most = few; fits = fits; cost-at-most = omega arith }
+              record { valid = valid; found-long = is .long; found-at-most = few; fits = fits; cost-is = is .cost-is; cost-at-most = omega arith }
 
           pub submit-0 : {left : Register} → Admits r found left → Steps r (submits j) (record { answer = admission; register = left })
-          unfolding admit
-          submit-0 {left} ad =
-              let admitted : with-found r found ≡ admit (state-of r) rows
-              = λ i. record { calendar = state-of r .calendar; rows = take (r .count) (r .rows) ++ rows; total = r .total + is .cost-is i } in
-              accepted-steps valid (submits j) admission answered left (ad ∙ ap (register-of s) (admitted ∙ sym left-admits))
+          submit-0 {left} ad = accepted-steps valid (submits j) admission answered left (ad ∙ ap (register-of s) (sym left-admits))
 
       -- late, too many rows, or admitted
       pub judges-settled : (w : Verdict) → Settles (r .count) found w → Judges r j w
@@ -252,17 +245,17 @@ module _ (s : Setup) (st : State) where
   withdraw-9 n a = judged-first _ (here refl (ap (λ b. refuse-if (not b)) a))
 
   module _ (n : ℕ) (held : view st .held n ≡ true) where
-    held-passed : LeftAfter 9 (withdraw-tests (view st) n)
+    withdrawn-held-passed : LeftAfter 9 (withdraw-tests (view st) n)
     unfolding withdraw-tests
-    held-passed = passed all-left (ap (λ b. refuse-if (not b)) held)
+    withdrawn-held-passed = passed all-left (ap (λ b. refuse-if (not b)) held)
 
     pub withdraw-10 : any-of (λ row. leb (row .start) (st .calendar .clock)) (view st .rows-of n) ≡ true → step s st (withdraws n) .answer ≡ refusal 10 0
     unfolding step settle withdraw-answer withdraw-tests
-    withdraw-10 b = judged-first _ (held-passed .first (here refl (ap refuse-if b)))
+    withdraw-10 b = judged-first _ (withdrawn-held-passed .first (here refl (ap refuse-if b)))
 
     pub withdraw-0 : any-of (λ row. leb (row .start) (st .calendar .clock)) (view st .rows-of n) ≡ false → step s st (withdraws n) .answer ≡ refusal 0 0
     unfolding step settle withdraw-answer withdraw-tests
-    withdraw-0 b = judged-passed _ (passed held-passed (ap refuse-if b) .clear end)
+    withdraw-0 b = judged-passed _ (passed withdrawn-held-passed (ap refuse-if b) .clear end)
 
   pub withdrawn-left : (n : ℕ) → step s st (withdraws n) .answer ≡ refusal 0 0 → step s st (withdraws n) .left ≡ withdraw st n
   unfolding step settle

@@ -1,15 +1,16 @@
 -- Between functions: what the parts of a call ask and answer.
 use mathlib.Core.Path.{_≡_}
 use mathlib.Core.Bool.{Bool, false}
-use mathlib.Core.List.{List, _++_}
+use mathlib.Core.List.{List}
 use Prim.Native.Nat.{ℕ, _+_, _*_, _≤_, _<_}
 use lib.Dec.{leb}
 use lib.ListN.{length, take, replicate}
 use Rattle.rules.specs.declared.Row.{Row}
 use Rattle.rules.specs.declared.Job.{Job}
 use Rattle.rules.specs.Sequences.{any-of, keep}
-use Rattle.rules.specs.Words.{with-clock, State, with-calendar, of-job, row-limit}
-use Rattle.rules.specs.Withdrawing.{remove, ended}
+use Rattle.rules.specs.Words.{with-clock, with-calendar, of-job, row-limit}
+use Rattle.rules.specs.Placing.{costs}
+use Rattle.rules.specs.Withdrawing.{admit, remove, ended}
 use Rattle.rules.specs.Refusals.{Call, refusal}
 use Rattle.rules.specs.Bounds.{largest-cost}
 use Rattle.placement.specs.Columns.{ColumnOf}
@@ -28,18 +29,12 @@ pub record AskAdmit (r : Register) (found : Placement) : Type 0 where
   pub found-long : length (found .rows) ≡ most-own
   pub found-at-most : found .count ≤ most-own
   pub fits : r .count + found .count ≤ row-limit
+  pub cost-is : found .cost ≡ costs (take (found .count) (found .rows))
   pub cost-at-most : found .cost ≤ most-own * largest-cost
 
--- the rows of the job go after the held ones, and their cost is added
-abbrev pub with-found : Register → Placement → State
-with-found r found = record {
-  calendar = state-of r .calendar;
-  rows = state-of r .rows ++ take (found .count) (found .rows);
-  total = r .total + found .cost;
-}
-
+-- the rows found are admitted
 abbrev pub Admits : Register → Placement → Register → Type 0
-Admits r found left = left ≡ register-of (r .setup) (with-found r found)
+Admits r found left = left ≡ register-of (r .setup) (admit (state-of r) (take (found .count) (found .rows)))
 
 -- the answer that refuses, and no rows
 abbrev pub refused-verdict : ℕ → ℕ → Verdict

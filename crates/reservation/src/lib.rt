@@ -17,7 +17,6 @@ use rules::TASKS;
 use rules::rows::blank;
 use rules::tables::default_setup;
 ghost use mathlib.Core.Path.{_≡_};
-
 ghost use lib.ListN.{getD};
 ghost use Rattle.rules.specs.Words.{fresh, default-setup};
 ghost use Rattle.rules.specs.Placing.{no-row};

@@ -17,7 +17,7 @@ use Rattle.rules.specs.Refusals.{submit-tests, submit-answer}
 use Rattle.rules.specs.Demands.{NoRefusal, end, passes, InRange}
 use Rattle.rules.proofs.Sequences.{by-test}
 use Rattle.rules.proofs.Demand1.{judged-passed, submit-answered}
-use Rattle.rules.proofs.Tests.{rows-passed}
+use Rattle.rules.proofs.Tests.{in-range-passed, held-passed, feasible-passed, placing-passed, rows-passed}
 
 pub record Admitted (s : Setup) (v : View) (j : Job) : Type 0 where
   pub in-range : InRange s j
@@ -77,7 +77,8 @@ module _ (s : Setup) (v : View) (j : Job) where
   admits a =
       let in-time = booked-not-missed (placing s v j) (a .rows-found) in
       let fits = le-ltb row-limit (length (v .rows) + length (found (placing s v j))) (a .fits) in
-      submit-answered s v j .passed .1 (rows-passed s v j (a .in-range) (a .not-held) (a .feasible) in-time fits .clear end)
+      let free = held-passed s v j (in-range-passed s v j (a .in-range)) (a .not-held) in
+      submit-answered s v j .passed .1 (rows-passed s v j (placing-passed s v j (feasible-passed s v j free (a .feasible)) in-time) fits .clear end)
 
   -- the answer of an accepted submission
   pub answer-passed : submit-answer s v j .number ≡ 0 → submit-answer s v j ≡ admission (found (placing s v j))

@@ -6,6 +6,7 @@ pub mod Choice
 pub mod Indexed
 pub mod LeastTick
 pub mod Resources
+pub mod Numbers
 pub mod Steps
 pub mod Turns
 pub mod Inputs

@@ -1,5 +1,5 @@
--- Tests made one after the other. What is left to make is known by the number of the last one that has passed, and no proof counts the tests: one that is
--- inserted has to be passed by the test after it, and no other fact here changes.
+-- Tests made one after the other. What is left to make is known by the number of the last one that has passed, and no proof counts the tests: each fact takes
+-- what the test before it left, so one that is inserted moves the fact of the test after it, and the places that name both in a row.
 use mathlib.Core.Path.{_≡_, ap}
 use mathlib.Core.Bool.{false, cond}
 use mathlib.Core.List.{List, [], _∷_}
@@ -32,46 +32,41 @@ tests-after n (test ∷ tests) = cond (eqb (test .number) n) tests (tests-after 
 abbrev pub LeftAfter : ℕ → List Test → Type 0
 LeftAfter n tests = Left tests (tests-after n tests)
 
--- The tests of a submission: what is left once each has passed.
+-- The tests of a submission: what is left once each has passed, of what the one before it left.
 module _ (s : Setup) (v : View) (j : Job) where
-  module _ (number : outside 1 largest-number (j .number) ≡ false) where
-    pub number-passed : LeftAfter 1 (submit-tests s v j)
-    unfolding submit-tests
-    number-passed = passed all-left (ap refuse-if number)
+  pub number-passed : outside 1 largest-number (j .number) ≡ false → LeftAfter 1 (submit-tests s v j)
+  unfolding submit-tests
+  number-passed number = passed all-left (ap refuse-if number)
 
-    module _ (counts : miscounted j ≡ false) where
-      pub counts-passed : LeftAfter 2 (submit-tests s v j)
-      unfolding submit-tests
-      counts-passed = passed number-passed (ap refuse-if counts)
+  pub counts-passed : LeftAfter 1 (submit-tests s v j) → miscounted j ≡ false → LeftAfter 2 (submit-tests s v j)
+  unfolding submit-tests
+  counts-passed left counts = passed left (ap refuse-if counts)
 
-      module _ (figures : out-of-range s j ≡ false) where
-        pub figures-passed : LeftAfter 3 (submit-tests s v j)
-        unfolding submit-tests
-        figures-passed = passed counts-passed (ap refuse-if figures)
+  pub figures-passed : LeftAfter 2 (submit-tests s v j) → out-of-range s j ≡ false → LeftAfter 3 (submit-tests s v j)
+  unfolding submit-tests
+  figures-passed left figures = passed left (ap refuse-if figures)
 
-        messages-passed : bad-messages j ≡ false → LeftAfter 4 (submit-tests s v j)
-        unfolding submit-tests
-        messages-passed messages = passed figures-passed (ap refuse-if messages)
+  pub messages-passed : LeftAfter 3 (submit-tests s v j) → bad-messages j ≡ false → LeftAfter 4 (submit-tests s v j)
+  unfolding submit-tests
+  messages-passed left messages = passed left (ap refuse-if messages)
 
-  module _ (range : InRange s j) where
-    pub in-range-passed : LeftAfter 4 (submit-tests s v j)
-    in-range-passed = messages-passed (range .number) (range .counts) (range .figures) (range .messages)
+  pub in-range-passed : InRange s j → LeftAfter 4 (submit-tests s v j)
+  in-range-passed range =
+      messages-passed (figures-passed (counts-passed (number-passed (range .number)) (range .counts)) (range .figures)) (range .messages)
 
-    module _ (free : v .held (j .number) ≡ false) where
-      pub held-passed : LeftAfter 5 (submit-tests s v j)
-      unfolding submit-tests
-      held-passed = passed in-range-passed (ap refuse-if free)
+  pub held-passed : LeftAfter 4 (submit-tests s v j) → v .held (j .number) ≡ false → LeftAfter 5 (submit-tests s v j)
+  unfolding submit-tests
+  held-passed left free = passed left (ap refuse-if free)
 
-      module _ (feasible : first-infeasible s (v .calendar .clock) j ≡ none) where
-        pub feasible-passed : LeftAfter 6 (submit-tests s v j)
-        unfolding submit-tests
-        feasible-passed = passed held-passed feasible
+  pub feasible-passed : LeftAfter 5 (submit-tests s v j) → first-infeasible s (v .calendar .clock) j ≡ none → LeftAfter 6 (submit-tests s v j)
+  unfolding submit-tests
+  feasible-passed left feasible = passed left feasible
 
-        module _ (in-time : missed (placing s v j) ≡ none) where
-          pub placing-passed : LeftAfter 7 (submit-tests s v j)
-          unfolding submit-tests
-          placing-passed = passed feasible-passed in-time
+  pub placing-passed : LeftAfter 6 (submit-tests s v j) → missed (placing s v j) ≡ none → LeftAfter 7 (submit-tests s v j)
+  unfolding submit-tests
+  placing-passed left in-time = passed left in-time
 
-          pub rows-passed : ltb row-limit (length (v .rows) + length (found (placing s v j))) ≡ false → LeftAfter 8 (submit-tests s v j)
-          unfolding submit-tests
-          rows-passed fits = passed placing-passed (ap refuse-if fits)
+  pub rows-passed :
+      LeftAfter 7 (submit-tests s v j) → ltb row-limit (length (v .rows) + length (found (placing s v j))) ≡ false → LeftAfter 8 (submit-tests s v j)
+  unfolding submit-tests
+  rows-passed left fits = passed left (ap refuse-if fits)

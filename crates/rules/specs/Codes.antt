@@ -14,6 +14,10 @@ abbrev pub resource-number : Resource → ℕ
 resource-number (machine m) = m
 resource-number (link a b) = a * machine-bound + b
 
+-- the numbers of resources lie below this
+abbrev pub resource-bound : ℕ
+resource-bound = machine-bound * machine-bound
+
 -- holders whose machines a table has room for
 pub data Numbered : Holder → Type 0 where
   on-machine : {m t : ℕ} → HasMachine m → Numbered (TaskOn m t)

@@ -54,15 +54,15 @@ pub record RowsListed (old : List ℕ) (at : ℕ) (rows : List Row) (count : ℕ
   pub at-most : k ≤ count
 
 module _
-    (old : List ℕ) (at : ℕ) (rows : List Row) (count : ℕ) (keys : List ℕ) (w : OrderIs rows count keys) (few : count ≤ row-limit)
+    (old : List ℕ) (at : ℕ) (rows : List Row) (count : ℕ) (ranks : List ℕ) (w : OrderIs rows count ranks) (few : count ≤ row-limit)
     (long : length rows ≡ row-limit) (room : at + row-limit * most-row ≤ length old) where
   abbrev row-at : ℕ → Row
   row-at k = getD rows k no-row
 
   places-long : length (w .places) ≡ count
   places-long =
-      let a : length (w .places) ≡ length (take count keys) = sym (ap length (w .keys-are) ∙ length-map (w .places) (λ k. order-number (row-at k) k)) in
-      let b = length-take count keys in
+      let a : length (w .places) ≡ length (take count ranks) = sym (ap length (w .ranks-are) ∙ length-map (w .places) (λ k. order-number (row-at k) k)) in
+      let b = length-take count ranks in
       let c = w .long in
       omega arith
 
@@ -72,7 +72,7 @@ module _
   sorted-long : length in-order ≡ count
   sorted-long = sym (ap length (w .rows-are)) ∙ length-map (w .places) row-at ∙ places-long
 
-  -- the key at k gives the row that stands there in order
+  -- the rank at k gives the row that stands there in order
   module _ (k : ℕ) (h : k < count) where
     abbrev place-at : ℕ
     place-at = getD (w .places) k 0
@@ -80,11 +80,11 @@ module _
     place-below : place-at < count
     place-below = w .places-below place-at (getD-mem (w .places) k 0 (let l = places-long in omega arith))
 
-    pub place-is : getD keys k 0 % place-room ≡ place-at
+    pub place-is : getD ranks k 0 % place-room ≡ place-at
     place-is =
         let l = places-long in
         let mapped = getD-map-in (λ n. order-number (row-at n) n) (w .places) k 0 0 (omega arith) in
-        ap (λ n. n % place-room) (sym (getD-take count keys k 0 h) ∙ ap (λ l. getD l k 0) (w .keys-are) ∙ mapped)
+        ap (λ n. n % place-room) (sym (getD-take count ranks k 0 h) ∙ ap (λ l. getD l k 0) (w .ranks-are) ∙ mapped)
         ∙ number-place (row-at place-at) place-at (let b = place-below in omega arith)
 
     pub row-there : row-at place-at ≡ getD in-order k no-row
@@ -98,9 +98,9 @@ module _
 
   pub rows-more :
       (new : List ℕ) (next k : ℕ) → k < count → RowsListed old at rows count new next k → (new′ : List ℕ) (last : ℕ) →
-      PutsAtMost new next (row-bytes (row-at (getD keys k 0 % place-room))) new′ last most-row → RowsListed old at rows count new′ last (k + 1)
+      PutsAtMost new next (row-bytes (row-at (getD ranks k 0 % place-room))) new′ last most-row → RowsListed old at rows count new′ last (k + 1)
   rows-more new next k h l new′ last p =
-      let row : row-at (getD keys k 0 % place-room) ≡ getD in-order k no-row = ap row-at (place-is k h) ∙ row-there k h in
+      let row : row-at (getD ranks k 0 % place-room) ≡ getD in-order k no-row = ap row-at (place-is k h) ∙ row-there k h in
       let q = subst (λ r. PutsAtMost new next (row-bytes r) new′ last most-row) row p in
       let more = within-then (row-bytes (getD in-order k no-row)) most-row (omega arith) (l .within) (q .puts) (q .short) in
       let size : k * most-row + most-row ≡ (k + 1) * most-row = omega arith in

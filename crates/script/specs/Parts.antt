@@ -101,30 +101,30 @@ pub record AskCode (row : Row) (place : ℕ) : Type 0 where
 abbrev pub insert-number : ℕ → List ℕ → List ℕ
 insert-number n ns = insert-before (λ m. ltb n m) n ns
 
--- a key at a place among the first so many, and those from there on one place further
-abbrev pub with-key : (keys : List ℕ) (count at key : ℕ) → List ℕ
-with-key keys count at key = take at keys ++ key ∷ take (count - at) (drop at keys)
+-- a rank at a place among the first so many, and those from there on one place further
+abbrev pub with-rank : (ranks : List ℕ) (count at rank : ℕ) → List ℕ
+with-rank ranks count at rank = take at ranks ++ rank ∷ take (count - at) (drop at ranks)
 
--- where a key goes: before the first that is larger
-pub record PlaceFor (keys : List ℕ) (count key place : ℕ) : Type 0 where
+-- where a rank goes: before the first that is larger
+pub record PlaceFor (ranks : List ℕ) (count rank place : ℕ) : Type 0 where
   pub within : place ≤ count
-  pub inserts : insert-number key (take count keys) ≡ with-key keys count place key
+  pub inserts : insert-number rank (take count ranks) ≡ with-rank ranks count place rank
 
-pub record KeyPut (old : List ℕ) (count at key : ℕ) (new : List ℕ) : Type 0 where
+pub record RankPut (old : List ℕ) (count at rank : ℕ) (new : List ℕ) : Type 0 where
   pub long : length new ≡ length old
-  pub keys-are : take (count + 1) new ≡ with-key old count at key
+  pub ranks-are : take (count + 1) new ≡ with-rank old count at rank
 
--- there is room for a key more
-pub record AskKeys (keys : List ℕ) (count : ℕ) : Type 0 where
-  pub long : length keys ≡ row-limit
+-- there is room for a rank more
+pub record AskRanks (ranks : List ℕ) (count : ℕ) : Type 0 where
+  pub long : length ranks ≡ row-limit
   pub room : count < row-limit
 
--- the keys of the rows are in order, and each says the place of its row
-pub record OrderIs (rows : List Row) (count : ℕ) (keys : List ℕ) : Type 0 where
+-- the ranks of the rows are in order, and each says the place of its row
+pub record OrderIs (rows : List Row) (count : ℕ) (ranks : List ℕ) : Type 0 where
   pub places : List ℕ
   pub places-below : (k : ℕ) → List·Memᴰ k places → k < count
-  pub long : length keys ≡ row-limit
-  pub keys-are : take count keys ≡ map (λ k. order-number (getD rows k no-row) k) places
+  pub long : length ranks ≡ row-limit
+  pub ranks-are : take count ranks ≡ map (λ k. order-number (getD rows k no-row) k) places
   pub rows-are : map (λ k. getD rows k no-row) places ≡ sorted (take count rows)
 
 pub record AskSort (rows : List Row) (count : ℕ) : Type 0 where

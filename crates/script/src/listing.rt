@@ -72,17 +72,17 @@ fn put_row(output: &mut [u8], at: usize, row: Row) -> usize
     }
 }
 
-// The rows in their order. The place of its row is what a key leaves when divided by the places.
+// The rows in their order. The place of its row is what a rank leaves when divided by the places.
 fn put_rows(output: &mut [u8], at: usize, rows: [Row; ROWS], count: usize) -> usize
     requires { ⌜ AskRows rows count (now output) at ⌝ }
     ensures { λ r. ⌜ Puts (now (output .entry)) at (joined (map row-bytes (sorted (take count rows)))) (now (output .exit)) r ⌝ }
 {
-    let keys = order_of(rows, count);
+    let ranks = order_of(rows, count);
     let mut next = at;
     let mut k = 0;
     while k < count {
-        let key = keys[k];
-        let place = (key % PLACES) as usize;
+        let rank = ranks[k];
+        let place = (rank % PLACES) as usize;
         let row = rows[place];
         next = put_row(output, next, row);
         k += 1;

@@ -1,15 +1,15 @@
 -- Where the entries of a job stand in its row, and how many machines the default table has.
-use mathlib.Core.Path.{_≡_, refl, sym, ap, _∙_}
+use mathlib.Core.Path.{_≡_, sym, ap, _∙_}
 use mathlib.Core.List.{List}
 use Prim.Native.Nat.{ℕ, zero, suc, _+_, _-_, _*_, _<_}
 use native.Mathlib.Nat.{zero-mul, suc-mul}
 use native.Mathlib.Omega.{arith}
 use lib.ListN.{getD, take, drop, List·getD-append}
 use lib.Seq.{drop-drop}
-use Rattle.rules.specs.Words.{no-task, most-tasks, most-messages, default-setup}
+use Rattle.rules.specs.Words.{no-task, most-tasks, most-messages}
 use Rattle.texts.specs.JobText.{groups, filled, task-said, message-said, blank-task, blank-message, job-said}
 use Rattle.texts.specs.JobText.{head-size, task-size, message-size, messages-at}
-use Rattle.texts.specs.Laws.{Task-stands, Message-stands, Default-machines}
+use Rattle.texts.specs.Laws.{Task-stands, Message-stands}
 use Rattle.texts.proofs.JobLaws.{groups-length}
 
 groups-at :
@@ -58,7 +58,3 @@ message-stands machines index row h =
     blank-message
     most-messages
     h
-
-pub default-machines-are : Default-machines
-unfolding default-setup
-default-machines-are = refl

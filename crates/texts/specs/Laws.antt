@@ -6,7 +6,7 @@ use Prim.Native.Nat.{ℕ, _+_, _*_, _≤_, _<_}
 use lib.Dec.{eqb}
 use lib.ListN.{length, getD, take, drop}
 use Rattle.rules.specs.declared.Job.{Job}
-use Rattle.rules.specs.Words.{most-tasks, most-messages, most-machines, task-of, default-setup}
+use Rattle.rules.specs.Words.{most-tasks, most-messages, most-machines, task-of}
 use Rattle.rules.specs.Sequences.{any-of}
 use Rattle.lines.specs.Figures.{line-feed}
 use Rattle.lines.specs.Lines.{parsed, refused, Due, line}
@@ -15,7 +15,6 @@ use Rattle.texts.specs.Forms.{Form, done, ask, read, written, written-in
 use Rattle.lines.specs.Lines.{takes}
 use Rattle.texts.specs.JobText.{job-form, task-said, message-said, blank-task, blank-message, head-size, task-size, message-size, messages-at, job-said}
 use Rattle.texts.specs.JobText.{job-figures, job-text, writable, written-job, blanked}
-use Rattle.texts.specs.Reader.{default-machines}
 
 -- What is read of a form fills it, and written again is the bytes that were read.
 abbrev pub Read-is-written : Type 0
@@ -93,10 +92,6 @@ Message-stands =
     (machines index : ℕ) (row : List ℕ) → index < getD row (messages-at machines row) 0 →
     getD (job-said machines row .messages) index blank-message
     ≡ message-said (take message-size (drop (messages-at machines row + 1 + index * message-size) row))
-
--- The machines of the default table are as many as it says.
-abbrev pub Default-machines : Type 0
-Default-machines = default-machines ≡ default-setup .table .machines
 
 -- What is read, written again, is the bytes that were read; and what was read is writable.
 abbrev pub Written-again : Type 0

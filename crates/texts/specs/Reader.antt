@@ -4,6 +4,7 @@ use mathlib.Core.List.{List}
 use Prim.Native.Nat.{ℕ}
 use lib.ListN.{length}
 use Rattle.rules.specs.declared.Job.{Job}
+use Rattle.rules.specs.Words.{default-setup}
 use Rattle.texts.specs.declared.job.JobRead.{JobRead}
 use Rattle.lines.specs.Lines.{Parsed, parsed, refused}
 use Rattle.lines.specs.Readings.{parsed-number, parsed-place, reading-number, reading-place, ReadingIs}
@@ -17,7 +18,7 @@ with-count (refused number place) = refused number place
 
 -- the machines of the default table
 abbrev pub default-machines : ℕ
-default-machines = 4
+default-machines = default-setup .table .machines
 
 -- the job, or the blank job on refusal
 abbrev pub job-or-blank : Parsed Job → Job

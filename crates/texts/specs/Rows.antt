@@ -6,11 +6,11 @@ use lib.ListN.{length, getD, take}
 use Rattle.rules.specs.declared.Job.{Job}
 use Rattle.rules.specs.Sequences.{joined}
 use Rattle.rules.specs.Words.{most-tasks, most-messages, most-machines}
-use Rattle.texts.specs.JobText.{task-size, message-size, messages-at, message-figures}
+use Rattle.texts.specs.JobText.{head-size, task-size, message-size, messages-at, message-figures}
 
 -- the length of a row: the most figures that a job has
 abbrev pub most-figures : ℕ
-most-figures = 4 + most-tasks * task-size most-machines + most-messages * message-size
+most-figures = head-size + most-tasks * task-size most-machines + 1 + most-messages * message-size
 
 pub record MachineCount (machines : ℕ) : Type 0 where
   pub some-machine : 1 ≤ machines

@@ -1,7 +1,7 @@
 -- `placement::place::place` meets its contract.
 use mathlib.Core.Path.{refl}
 use native.Mathlib.Omega.{arith}
-use Rattle.placement.proofs.Threading.{place-keyed}
+use Rattle.placement.proofs.Threading.{place-coded}
 use Rattle.placement.proofs.place.place.Statement.{statement}
 use Rattle.placement.proofs.place.place.Tie as tie
 
@@ -14,10 +14,10 @@ abbrev thread-back-done : tie.After-nexts2 → tie.After-thread-back
 thread-back-done c = c .before .before .before .before
 
 thread-on-requires : tie.Need-thread-on-requires
-thread-on-requires c κs = (place-keyed (c .before .before .pre), refl)
+thread-on-requires c κs = (place-coded (c .before .before .pre), refl)
 
 thread-back-requires : tie.Need-thread-back-requires
-thread-back-requires c κs = (place-keyed (start (c .before) .pre), refl)
+thread-back-requires c κs = (place-coded (start (c .before) .pre), refl)
 
 place-tasks-requires : tie.Need-place-tasks-requires
 place-tasks-requires c κs =

@@ -4,7 +4,8 @@ use native.Mathlib.Omega.{arith}
 use mathlib.Core.Path.{refl}
 use Rattle.rules.proofs.Sums.{below-fits, index-fits}
 use Rattle.placement.proofs.Sums.{thread-place}
-use Rattle.placement.specs.Threads.{resource-bound, nodes}
+use Rattle.rules.specs.Codes.{resource-bound}
+use Rattle.placement.specs.Threads.{nodes}
 use Rattle.placement.proofs.Threading.{next-at}
 use Rattle.placement.proofs.search.following.Statement.{statement}
 use Rattle.placement.proofs.search.following.Tie as tie

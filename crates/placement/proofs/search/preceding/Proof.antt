@@ -3,7 +3,8 @@ use Prim.Native.Nat.{_+_, _<_}
 use mathlib.Core.Path.{refl}
 use Rattle.rules.proofs.Sums.{below-fits, index-fits}
 use Rattle.placement.proofs.Sums.{thread-place, code-place}
-use Rattle.placement.specs.Threads.{resource-bound, nodes}
+use Rattle.rules.specs.Codes.{resource-bound}
+use Rattle.placement.specs.Threads.{nodes}
 use Rattle.placement.proofs.Threading.{last-at, own-last, threaded-last}
 use Rattle.placement.proofs.search.preceding.Statement.{statement}
 use Rattle.placement.proofs.search.preceding.Tie as tie

@@ -6,7 +6,8 @@ use mathlib.Core.Path.{refl}
 use Rattle.rules.proofs.Sums.{less-next, below-fits, next-fits, index-fits}
 use Rattle.placement.proofs.Sums.{thread-place, code-place}
 use Rattle.placement.specs.Columns.{room}
-use Rattle.placement.specs.Threads.{resource-bound, nodes}
+use Rattle.rules.specs.Codes.{resource-bound}
+use Rattle.placement.specs.Threads.{nodes}
 use Rattle.placement.proofs.Threading.{MadeBack, made-back-none, made-back-more, made-back-all}
 use Rattle.placement.proofs.threads.thread_back.Statement.{statement}
 use Rattle.placement.proofs.threads.thread_back.Tie as tie

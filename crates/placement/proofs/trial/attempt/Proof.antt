@@ -6,7 +6,8 @@ use Rattle.rules.specs.Words.{most-messages}
 use Rattle.rules.specs.Bounds.{largest-cost}
 use Rattle.rules.proofs.Sums.{next-fits, index-fits}
 use Rattle.placement.proofs.Attempts.{attempt-searchable, attempt-there, ask-own, own-figures, attempt-made}
-use Rattle.placement.proofs.Threading.{machine-known, threaded-kept}
+use Rattle.rules.proofs.Numbers.{machine-below}
+use Rattle.placement.proofs.Threading.{threaded-kept}
 use Rattle.placement.proofs.trial.attempt.Statement.{statement}
 use Rattle.placement.proofs.trial.attempt.Tie as tie
 
@@ -27,7 +28,7 @@ least-free-requires c κs =
     let pre = start-2 (c .before .before .before) .pre in (
       attempt-searchable (pre .0) found (pre .1 .1),
       (
-        machine-known (attempt-there (pre .0) found (pre .1 .1)),
+        machine-below (attempt-there (pre .0) found (pre .1 .1)),
         threaded-kept (pre .1 .0) (found .same)
             (omega arith),
       ),

@@ -6,7 +6,7 @@ use Rattle.rules.specs.Placing.{message-booking, least-free}
 use Rattle.placement.specs.Columns.{spans-of}
 use Rattle.placement.proofs.Figures.{transfer-at-most}
 use Rattle.placement.proofs.Passes.{least-below}
-use Rattle.placement.proofs.Threading.{link-known}
+use Rattle.rules.proofs.Numbers.{link-below}
 use Rattle.placement.proofs.trial.try_message.Statement.{statement}
 use Rattle.placement.proofs.trial.try_message.Tie as tie
 
@@ -18,7 +18,7 @@ least-free-requires c κs =
     let takes = pre .takes-time in
     let low = pre .done-at-most in (
       record { spans = pre .spans; from-below = omega arith; len-above = omega arith; len-below = omega arith },
-      (rw (c .link-number .ensures) (link-known (pre .moves .ends)), c .before .before .pre .1),
+      (rw (c .link-number .ensures) (link-below (pre .moves .ends)), c .before .before .pre .1),
     )
 
 message-row-requires : tie.Need-message-row-requires

@@ -6,10 +6,10 @@ use Rattle.script.proofs.listing.put_rows.Statement.{statement}
 use Rattle.script.proofs.listing.put_rows.Tie as tie
 
 abbrev Inv-loop : tie.InvT-loop
-Inv-loop output₀ at count rows keys next₀ k₀ output next k = RowsListed output₀ at rows count output next k
+Inv-loop output₀ at count rows ranks next₀ k₀ output next k = RowsListed output₀ at rows count output next k
 
 abbrev μ-loop : tie.MeasureT-loop
-μ-loop output₀ at count rows keys next₀ k₀ output next k = count - k
+μ-loop output₀ at count rows ranks next₀ k₀ output next k = count - k
 
 -- The stops: the start, and a turn's test.
 

@@ -1,0 +1,3 @@
+-- What the contracts of figures cite.
+pub mod Rows
+pub mod Tables

@@ -1,0 +1,3 @@
+// Jobs and tables as rows of figures, lent: the functions here alone know the places.
+pub mod jobs;
+pub mod tables;

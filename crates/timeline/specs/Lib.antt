@@ -1,0 +1,4 @@
+-- What the timeline's contracts cite.
+pub mod Timeline
+pub mod Kept
+pub mod Beside

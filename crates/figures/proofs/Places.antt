@@ -13,10 +13,10 @@ use Rattle.rules.specs.Sequences.{joined}
 use Rattle.rules.specs.Words.{most-tasks, most-machines, no-task, task-of, run-time, messages-of}
 use Rattle.texts.specs.JobText.{head-size, task-size, message-size, task-figures, message-figures}
 use Rattle.texts.proofs.Figured.{tasks-within}
-use Rattle.figures.specs.Rows.{RowOf, AskTask}
+use Rattle.figures.specs.Rows.{RowOf, AskTaskFigure}
 
 -- the figures of a task, behind those of the tasks before it, are no more than the row has room for
-pub task-room : {machines t : ℕ} → AskTask machines t → t * task-size machines + task-size machines ≤ most-tasks * task-size most-machines
+pub task-room : {machines t : ℕ} → AskTaskFigure machines t → t * task-size machines + task-size machines ≤ most-tasks * task-size most-machines
 task-room {machines} {t} ask =
     let more = suc-mul t (task-size machines) in
     let all : suc t * task-size machines ≤ most-tasks * task-size most-machines = tasks-within (ask .machines-at-most) (ask .listed) in

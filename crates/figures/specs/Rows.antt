@@ -20,20 +20,20 @@ pub record RowOf (machines : ℕ) (j : Job) (row : List ℕ) : Type 0 where
   pub messages-long : length (j .messages) ≡ most-messages
   pub runs-long : (i : ℕ) → i < j .taskcount → length (getD (j .tasks) i no-task .runs) ≡ most-machines
 
-pub record AskTask (machines t : ℕ) : Type 0 where
+pub record AskTaskFigure (machines t : ℕ) : Type 0 where
   pub machines-at-most : machines ≤ most-machines
   pub listed : t < most-tasks
 
 pub record AskRun (machines t m : ℕ) : Type 0 where
-  pub task : AskTask machines t
+  pub task : AskTaskFigure machines t
   pub machine : m < machines
 
-pub record AskMessages (machines tasks : ℕ) : Type 0 where
+pub record AskMessagesPlace (machines tasks : ℕ) : Type 0 where
   pub machines-at-most : machines ≤ most-machines
   pub tasks-at-most : tasks ≤ most-tasks
 
 -- the place of the count leaves room for all messages
-pub record AskMessage (at i : ℕ) : Type 0 where
+pub record AskMessageFigure (at i : ℕ) : Type 0 where
   pub room : at + 1 + most-messages * message-size ≤ most-figures
   pub listed : i < most-messages
 

@@ -1,7 +1,7 @@
 // A job's figures, in the order of its lines: its number, scheduling time and count of tasks; for each task its deadline, dispatch time and run times; the
 // count of messages; for each message its sender, receiver and volume. Tasks and messages are counted from 0 here.
 use texts::job::FIGURES;
-ghost use Rattle.figures.specs.Rows.{AskTask, AskRun, AskMessages, AskMessage, JobNumberIs, SchedulingIs, TaskCountIs, DeadlineIs, DispatchIs, RunIs};
+ghost use Rattle.figures.specs.Rows.{AskTaskFigure, AskRun, AskMessagesPlace, AskMessageFigure, JobNumberIs, SchedulingIs, TaskCountIs, DeadlineIs, DispatchIs, RunIs};
 ghost use Rattle.figures.specs.Rows.{MessagesAtIs, MessageCountIs, SenderIs, ReceiverIs, VolumeIs};
 
 pub fn number_of(row: &[u64; FIGURES]) -> u64
@@ -23,14 +23,14 @@ pub fn task_count(row: &[u64; FIGURES]) -> u64
 }
 
 pub fn deadline_of(row: &[u64; FIGURES], machines: usize, t: usize) -> u64
-    requires { ⌜ AskTask machines t ⌝ }
+    requires { ⌜ AskTaskFigure machines t ⌝ }
     ensures { λ r. ⌜ DeadlineIs (now (row .entry)) machines t r ⌝ }
 {
     row[3 + t * (2 + machines)]
 }
 
 pub fn dispatch_of(row: &[u64; FIGURES], machines: usize, t: usize) -> u64
-    requires { ⌜ AskTask machines t ⌝ }
+    requires { ⌜ AskTaskFigure machines t ⌝ }
     ensures { λ r. ⌜ DispatchIs (now (row .entry)) machines t r ⌝ }
 {
     row[3 + t * (2 + machines) + 1]
@@ -46,14 +46,14 @@ pub fn run_of(row: &[u64; FIGURES], machines: usize, t: usize, m: usize) -> u64
 
 // Where the count of messages stands; the messages follow it.
 pub fn messages_at(machines: usize, tasks: usize) -> usize
-    requires { ⌜ AskMessages machines tasks ⌝ }
+    requires { ⌜ AskMessagesPlace machines tasks ⌝ }
     ensures { λ r. ⌜ MessagesAtIs machines tasks r ⌝ }
 {
     3 + tasks * (2 + machines)
 }
 
 pub fn message_count(row: &[u64; FIGURES], at: usize) -> u64
-    requires { ⌜ AskMessage at 0 ⌝ }
+    requires { ⌜ AskMessageFigure at 0 ⌝ }
     ensures { λ r. ⌜ MessageCountIs (now (row .entry)) at r ⌝ }
 {
     row[at]
@@ -61,21 +61,21 @@ pub fn message_count(row: &[u64; FIGURES], at: usize) -> u64
 
 // The figures of the message at an index, where `at` is the place of the count of messages.
 pub fn sender_of(row: &[u64; FIGURES], at: usize, i: usize) -> u64
-    requires { ⌜ AskMessage at i ⌝ }
+    requires { ⌜ AskMessageFigure at i ⌝ }
     ensures { λ r. ⌜ SenderIs (now (row .entry)) at i r ⌝ }
 {
     row[at + 1 + i * 3]
 }
 
 pub fn receiver_of(row: &[u64; FIGURES], at: usize, i: usize) -> u64
-    requires { ⌜ AskMessage at i ⌝ }
+    requires { ⌜ AskMessageFigure at i ⌝ }
     ensures { λ r. ⌜ ReceiverIs (now (row .entry)) at i r ⌝ }
 {
     row[at + 1 + i * 3 + 1]
 }
 
 pub fn volume_of(row: &[u64; FIGURES], at: usize, i: usize) -> u64
-    requires { ⌜ AskMessage at i ⌝ }
+    requires { ⌜ AskMessageFigure at i ⌝ }
     ensures { λ r. ⌜ VolumeIs (now (row .entry)) at i r ⌝ }
 {
     row[at + 1 + i * 3 + 2]

@@ -80,7 +80,7 @@ module _ (old : List ℕ) (count at value : ℕ) (asked : AskInsert old count at
   }
 
 -- Making room: those from i on stand one place further, and at i is what may be written over.
-pub record Moved (old : List ℕ) (count at : ℕ) (new : List ℕ) (i : ℕ) : Type 0 where
+pub record Shifted (old : List ℕ) (count at : ℕ) (new : List ℕ) (i : ℕ) : Type 0 where
   pub not-before : at ≤ i
   pub within : i ≤ count
   pub long : length new ≡ length old
@@ -89,7 +89,7 @@ pub record Moved (old : List ℕ) (count at : ℕ) (new : List ℕ) (i : ℕ) : 
   pub beyond : (k : ℕ) → count < k → getD new k 0 ≡ getD old k 0
 
 module _ {old : List ℕ} {count at : ℕ} (asked : AskInsert old count at) where
-  pub moved-none : Moved old count at old count
+  pub moved-none : Shifted old count at old count
   moved-none = record {
     not-before = asked .within;
     within = omega arith;
@@ -99,8 +99,8 @@ module _ {old : List ℕ} {count at : ℕ} (asked : AskInsert old count at) wher
     beyond = λ k h. refl;
   }
 
-  module _ {new : List ℕ} {i : ℕ} (moved : Moved old count at new i) where
-    pub moved-more : at < i → Moved old count at (set new i (getD new (i - 1) 0)) (i - 1)
+  module _ {new : List ℕ} {i : ℕ} (moved : Shifted old count at new i) where
+    pub moved-more : at < i → Shifted old count at (set new i (getD new (i - 1) 0)) (i - 1)
     moved-more more = record {
       not-before = omega arith;
       within = omega arith;

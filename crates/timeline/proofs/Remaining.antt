@@ -22,7 +22,7 @@ abbrev pub stays-at : (places : List ℕ) (leaves : List Bool) → ℕ → Bool
 stays-at places leaves i = not (getD leaves (getD places i 0) false)
 
 -- After i entries.
-pub record Removing
+pub record Leaving
     (begins ends places : List ℕ) (leaves : List Bool) (count : ℕ) (begins′ ends′ places′ : List ℕ) (kept i : ℕ) : Type 0 where
   pub within : i ≤ count
   pub kept-is : kept ≡ length (staying (stays-at places leaves) i)
@@ -33,7 +33,7 @@ pub record Removing
 
 module _
     {begins ends places : List ℕ} {leaves : List Bool} {left : List ℕ} {count : ℕ} (asked : AskRemove begins ends places leaves left count) where
-  pub removing-none : Removing begins ends places leaves count begins ends places 0 0
+  pub removing-none : Leaving begins ends places leaves count begins ends places 0 0
   removing-none = record {
     within = omega arith;
     kept-is = refl;
@@ -44,7 +44,7 @@ module _
   }
 
   module _
-      {begins′ ends′ places′ : List ℕ} {kept i : ℕ} (removing : Removing begins ends places leaves count begins′ ends′ places′ kept i) where
+      {begins′ ends′ places′ : List ℕ} {kept i : ℕ} (removing : Leaving begins ends places leaves count begins′ ends′ places′ kept i) where
     place-same : getD places′ i 0 ≡ getD places i 0
     place-same = removing .places-are .rest i (omega arith)
 
@@ -52,7 +52,7 @@ module _
       pub place-within : getD places′ i 0 < count
       place-within = omega (arith, place-same, asked .places-below i more)
 
-      pub removing-goes : stays-at places′ leaves i ≡ false → Removing begins ends places leaves count begins′ ends′ places′ kept (i + 1)
+      pub removing-goes : stays-at places′ leaves i ≡ false → Leaving begins ends places leaves count begins′ ends′ places′ kept (i + 1)
       removing-goes e =
           let gone : stays-at places leaves i ≡ false = rw (sym place-same) e in
           record {
@@ -66,7 +66,7 @@ module _
 
       pub removing-stays :
           stays-at places′ leaves i ≡ true →
-          Removing begins ends places leaves count
+          Leaving begins ends places leaves count
           (set begins′ kept (getD begins′ i 0)) (set ends′ kept (getD ends′ i 0)) (set places′ kept (getD left (getD places′ i 0) 0)) (kept + 1) (i + 1)
       removing-stays e =
           let here : stays-at places leaves i ≡ true = rw (sym place-same) e in
@@ -204,7 +204,7 @@ module _
 
 pub removing-all :
     {begins ends places : List ℕ} {leaves : List Bool} {count : ℕ} {begins′ ends′ places′ : List ℕ} {kept i : ℕ} →
-    Removing begins ends places leaves count begins′ ends′ places′ kept i → count ≤ i →
+    Leaving begins ends places leaves count begins′ ends′ places′ kept i → count ≤ i →
     Removed begins ends places leaves count begins′ ends′ places′ kept
 removing-all {begins} {ends} {places} {leaves} {count} {begins′} {ends′} {places′} {kept} {i} removing all = record {
   is =

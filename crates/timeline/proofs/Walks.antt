@@ -5,7 +5,7 @@ use mathlib.Core.List.{List}
 use lib.ListN.{getD}
 use Rattle.rules.specs.Codes.{resource-bound}
 use Rattle.rules.proofs.Sequences.{by-less}
-use Rattle.timeline.specs.Timeline.{tick-room, AskFirst, FirstAfter, AskGap, Met, Passed, GapIs, AskLeast}
+use Rattle.timeline.specs.Timeline.{tick-room, AskFirst, FirstAfter, AskGap, Met, SpansPassed, GapIs, AskLeast}
 
 -- Halving: those below `low` end at or before the place, and those from `high` on after it.
 
@@ -53,7 +53,7 @@ module _ (ends : List ℕ) (count at : ℕ) where
 pub record Walked (begins ends : List ℕ) (count first at len i place : ℕ) : Type 0 where
   pub on : first ≤ i
   pub within : i ≤ count
-  pub passed : Passed begins ends first at len i place
+  pub passed : SpansPassed begins ends first at len i place
   pub fits : place + len < 2 * (resource-bound * tick-room)
 
 module _ (begins ends : List ℕ) (count first at len : ℕ) (asked : AskGap begins ends count first at len) where

@@ -83,7 +83,7 @@ pub record Met (begins ends : List ℕ) (len below place : ℕ) : Type 0 where
   pub ends-later : place < getD ends which 0
 
 -- The spans from an index on up to one are passed: they end at or before the place, and from no earlier place are there so many ticks without one of them.
-pub record Passed (begins ends : List ℕ) (first at len stop place : ℕ) : Type 0 where
+pub record SpansPassed (begins ends : List ℕ) (first at len stop place : ℕ) : Type 0 where
   pub not-before : at ≤ place
   pub ended : (i : ℕ) → first ≤ i → i < stop → getD ends i 0 ≤ place
   pub none-earlier : (x : ℕ) → at ≤ x → x < place → Met begins ends len stop x
@@ -92,7 +92,7 @@ pub record Passed (begins ends : List ℕ) (first at len stop place : ℕ) : Typ
 pub record GapIs (begins ends : List ℕ) (count first at len r : ℕ) : Type 0 where
   pub stop : ℕ
   pub at-most : stop ≤ count
-  pub passed : Passed begins ends first at len stop r
+  pub passed : SpansPassed begins ends first at len stop r
   pub room : stop < count → r + len ≤ getD begins stop 0
 
 -- The search.

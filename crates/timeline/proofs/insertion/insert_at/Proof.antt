@@ -1,11 +1,11 @@
 -- `timeline::insertion::insert_at` meets its contract: from i on all stand one place further.
 use native.Mathlib.Omega.{arith}
-use Rattle.timeline.proofs.Inserted.{Moved, moved-none, moved-more, moved-put}
+use Rattle.timeline.proofs.Inserted.{Shifted, moved-none, moved-more, moved-put}
 use Rattle.timeline.proofs.insertion.insert_at.Statement.{statement}
 use Rattle.timeline.proofs.insertion.insert_at.Tie as tie
 
 abbrev Inv-loop : tie.InvT-loop
-Inv-loop values₀ count at value i₀ values i = Moved values₀ count at values i
+Inv-loop values₀ count at value i₀ values i = Shifted values₀ count at values i
 
 abbrev μ-loop : tie.MeasureT-loop
 μ-loop values₀ count at value i₀ values i = i

@@ -1,11 +1,11 @@
 -- `timeline::insertion::insert_place` meets its contract: from i on all stand one place further.
 use native.Mathlib.Omega.{arith}
-use Rattle.timeline.proofs.Inserted.{Moved, moved-none, moved-more, moved-put}
+use Rattle.timeline.proofs.Inserted.{Shifted, moved-none, moved-more, moved-put}
 use Rattle.timeline.proofs.insertion.insert_place.Statement.{statement}
 use Rattle.timeline.proofs.insertion.insert_place.Tie as tie
 
 abbrev Inv-loop : tie.InvT-loop
-Inv-loop places₀ count at place i₀ places i = Moved places₀ count at places i
+Inv-loop places₀ count at place i₀ places i = Shifted places₀ count at places i
 
 abbrev μ-loop : tie.MeasureT-loop
 μ-loop places₀ count at place i₀ places i = i

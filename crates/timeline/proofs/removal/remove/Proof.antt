@@ -3,13 +3,13 @@ use native.Mathlib.Omega.{arith}
 use Prim.Native.Nat.{_-_, _<_}
 use mathlib.Core.Logic.{⊎-elim}
 use lib.ListN.{getD}
-use Rattle.timeline.proofs.Remaining.{Removing, removing-none, place-within, removing-goes, removing-stays, removing-all}
+use Rattle.timeline.proofs.Remaining.{Leaving, removing-none, place-within, removing-goes, removing-stays, removing-all}
 use Rattle.timeline.proofs.removal.remove.Statement.{statement}
 use Rattle.timeline.proofs.removal.remove.Tie as tie
 
 abbrev Inv-loop : tie.InvT-loop
 Inv-loop begins₀ ends₀ places₀ leaves left count kept₀ i₀ begins ends places kept i =
-    Removing begins₀ ends₀ places₀ leaves count begins ends places kept i
+    Leaving begins₀ ends₀ places₀ leaves count begins ends places kept i
 
 abbrev μ-loop : tie.MeasureT-loop
 μ-loop begins₀ ends₀ places₀ leaves left count kept₀ i₀ begins ends places kept i = count - i

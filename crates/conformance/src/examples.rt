@@ -59,8 +59,8 @@ fn one_more(both: Both, number: u64) -> Both
 pub fn row_limit(counts: Counts) -> Counts {
     let almost_full = filled(opened(fresh(), counts, 1), 256, false);
     let full = one_more(almost_full, 256);
-    let refused = one_more(full, 257);
-    refused.counts
+    let beyond = one_more(full, 257);
+    beyond.counts
 }
 
 // The total of both sides, which passes 32 bits.

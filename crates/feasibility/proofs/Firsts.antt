@@ -18,7 +18,7 @@ first-answers s v j f = judged-first _ f
 
 module _ {s : Setup} {j : Job} where
   abbrev first-is : (n : ℕ) → ((v : View) → FirstRefusal n 0 (submit-tests s v j)) → (n ≡ 0 → ⊥) → EarlyIs s j n
-  first-is n f ne = record { refused = λ _ v. first-answers s v j (f v); in-range = λ z. absurd (ne z) }
+  first-is n f ne = record { early-answer = λ _ v. first-answers s v j (f v); in-range = λ z. absurd (ne z) }
 
   pub early-1 : outside 1 largest-number (j .number) ≡ true → EarlyIs s j 1
   unfolding submit-tests
@@ -40,4 +40,4 @@ module _ {s : Setup} {j : Job} where
         early-4 d = first-is 4 (λ v. figures-passed s v j (counts-passed s v j (number-passed s v j a) b) c .first (here refl (ap refuse-if d))) (λ z. omega arith)
 
         pub early-0 : bad-messages j ≡ false → EarlyIs s j 0
-        early-0 d = record { refused = λ ne. absurd (ne refl); in-range = λ _. record { number = a; counts = b; figures = c; messages = d } }
+        early-0 d = record { early-answer = λ ne. absurd (ne refl); in-range = λ _. record { number = a; counts = b; figures = c; messages = d } }

@@ -31,5 +31,5 @@ TestOf test its r = (j : Job) (t : ℕ) → task-of j t ≡ its → r ≡ test j
 
 -- the first of refusals 1 to 4: the answer whatever the clock and the rows
 pub record EarlyIs (s : Setup) (j : Job) (number : ℕ) : Type 0 where
-  pub refused : (number ≡ 0 → ⊥) → (v : View) → submit-answer s v j ≡ refusal number 0
+  pub early-answer : (number ≡ 0 → ⊥) → (v : View) → submit-answer s v j ≡ refusal number 0
   pub in-range : number ≡ 0 → InRange s j

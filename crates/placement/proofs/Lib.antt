@@ -1,5 +1,4 @@
 -- Laws that the functions' proofs cite.
-pub mod Sums
 pub mod Passes
 pub mod Threading
 pub mod Mirror

@@ -132,7 +132,7 @@ pub fn planted(book: Book, from: u64, to: u64, time: u64) -> Book {
     changed
 }
 
-fn refused(book: Book, number: u64, task: u64) -> RefReply {
+fn bare_reply(book: Book, number: u64, task: u64) -> RefReply {
     RefReply {
         answer: RefAnswer {
             number: number,
@@ -145,28 +145,28 @@ fn refused(book: Book, number: u64, task: u64) -> RefReply {
 }
 
 fn accepted(book: Book) -> RefReply {
-    refused(book, 0, 0)
+    bare_reply(book, 0, 0)
 }
 
 // Refusals 1 to 8, in this order.
 pub fn submit(book: Book, job: RefJob) -> RefReply {
     let wrong = refusal_of_job(job);
     if wrong != 0 {
-        return refused(book, wrong, 0);
+        return bare_reply(book, wrong, 0);
     }
     if 0 < of_job(book, job.number).count {
-        return refused(book, 5, 0);
+        return bare_reply(book, 5, 0);
     }
     let hopeless = hopeless_task(book.clock, job);
     if hopeless != 0 {
-        return refused(book, 6, hopeless);
+        return bare_reply(book, 6, hopeless);
     }
     let plan = placed(book, job);
     if plan.late != 0 {
-        return refused(book, 7, plan.late);
+        return bare_reply(book, 7, plan.late);
     }
     if 256 < plan.count {
-        return refused(book, 8, 0);
+        return bare_reply(book, 8, 0);
     }
     admission(book, plan)
 }
@@ -187,10 +187,10 @@ fn admission(book: Book, plan: Plan) -> RefReply {
 pub fn withdraw(book: Book, number: u64) -> RefReply {
     let held = of_job(book, number);
     if held.count == 0 {
-        return refused(book, 9, 0);
+        return bare_reply(book, 9, 0);
     }
     if held.first <= book.clock {
-        return refused(book, 10, 0);
+        return bare_reply(book, 10, 0);
     }
     accepted(without(book, number))
 }
@@ -198,10 +198,10 @@ pub fn withdraw(book: Book, number: u64) -> RefReply {
 // 11: below the clock. 12: above the horizon. Then each job leaves whose every row ends at or before the new clock.
 pub fn move_clock(book: Book, tick: u64) -> RefReply {
     if tick < book.clock {
-        return refused(book, 11, 0);
+        return bare_reply(book, 11, 0);
     }
     if HORIZON < tick {
-        return refused(book, 12, 0);
+        return bare_reply(book, 12, 0);
     }
     let mut moved = book;
     moved.clock = tick;

@@ -100,7 +100,7 @@ module _ {r : Register} (valid : Valid r) where
 module _ {r : Register} (valid : Valid r) {j : Job} {n : ℕ} (early : EarlyIs (r .setup) j n) where
   pub submit-early : (n ≡ 0 → ⊥) → Steps r (submits j) (record { answer = refusal n 0; register = r })
   unfolding step settle
-  submit-early ne = refused-steps valid (submits j) (refusal n 0) (early .refused ne (view (state-of r))) ne
+  submit-early ne = refused-steps valid (submits j) (refusal n 0) (early .early-answer ne (view (state-of r))) ne
 
   pub ask-place : n ≡ 0 → AskPlace (r .setup) (r .clock + j .scheduling) (r .rows) (r .count) j
   ask-place z = record {

@@ -35,7 +35,7 @@ pub judged-by :
     AnsweredBy tests (judged passed tests)
 unfolding judged
 judged-by passed [] zero-passed nonzero = record {
-  refused = λ n t ne. (λ e. absurd (ne (sym (ap (λ a. a .number) e) ∙ zero-passed)), λ f. elim f [ ]);
+  first-refusal = λ n t ne. (λ e. absurd (ne (sym (ap (λ a. a .number) e) ∙ zero-passed)), λ f. elim f [ ]);
   by-a-test = λ ne. absurd (ne zero-passed);
   passed = (λ e. end, λ f. zero-passed);
 }
@@ -57,12 +57,12 @@ judged-by passed (test ∷ tests) zero-passed nonzero =
         (o : Option ℕ) → test .refuses ≡ o → AnsweredBy tests (judged passed tests) →
         AnsweredBy (test ∷ tests) (elim o [ none ↦ judged passed tests | some t ↦ refusal (test .number) t ])
     go none o below = record {
-      refused = λ n t ne. (λ e. later o (below .refused n t ne .0 e), λ f. below .refused n t ne .1 (after-first o f));
+      first-refusal = λ n t ne. (λ e. later o (below .first-refusal n t ne .0 e), λ f. below .first-refusal n t ne .1 (after-first o f));
       by-a-test = λ ne. let first = below .by-a-test ne in (first .0, later o (first .1));
       passed = (λ e. passes o (below .passed .0 e), λ f. below .passed .1 (no-refusal f .1));
     }
     go (some u) o below = record {
-      refused = λ n t ne. (λ e. here (ap (λ a. a .number) e) (o ∙ ap (λ a. some (a .task)) e), λ f. at-first o f);
+      first-refusal = λ n t ne. (λ e. here (ap (λ a. a .number) e) (o ∙ ap (λ a. some (a .task)) e), λ f. at-first o f);
       by-a-test = λ ne. (u, here refl o);
       passed = (λ e. absurd (nonzero test (List·Memᴰ·head refl) e), λ f. both (no-refusal f .0) o);
     }
@@ -153,7 +153,7 @@ module _ (s : Setup) (v : View) (m tick : ℕ) where
   seen-there : IsMachine s m → (rows : List Row) → rows ≡ there → SeenBy s v m tick (seen-in rows)
   unfolding seen-in
   seen-there is [] e = record {
-    refused = (λ n. absurd (omega arith), λ none-such. absurd (none-such is));
+    no-machine = (λ n. absurd (omega arith), λ none-such. absurd (none-such is));
     passed = (λ n. is, λ _. refl);
     sees = λ row n. absurd (Option·none-ne-some row n);
     idle = (λ _. (is, λ row n runs. List·Memᴰ·not-nil (subst (List·Memᴰ row) (sym e) (there-mem row n runs))), λ _. refl);
@@ -161,7 +161,7 @@ module _ (s : Setup) (v : View) (m tick : ℕ) where
   seen-there is (x ∷ rows) e =
       let x-there = mem-there x (subst (List·Memᴰ x) e (List·Memᴰ·head refl)) in
       record {
-        refused = (λ n. absurd (omega arith), λ none-such. absurd (none-such is));
+        no-machine = (λ n. absurd (omega arith), λ none-such. absurd (none-such is));
         passed = (λ n. is, λ _. refl);
         sees = λ row n. rw (sym (Option·some-injective x row n)) x-there;
         idle = (λ n. let z : _≡_ {A = ℕ} 0 1 = cc in absurd (omega arith), λ empty. absurd (empty .1 x (x-there .0) (x-there .1)));
@@ -169,7 +169,7 @@ module _ (s : Setup) (v : View) (m tick : ℕ) where
 
   seen-nowhere : (IsMachine s m → ⊥) → SeenBy s v m tick NoMachine
   seen-nowhere none-such = record {
-    refused = (λ _. none-such, λ _. refl);
+    no-machine = (λ _. none-such, λ _. refl);
     passed = (λ n. absurd (omega arith), λ is. absurd (none-such is));
     sees = λ row n. absurd (Option·none-ne-some row n);
     idle = (λ n. let z : _≡_ {A = ℕ} 0 1 = cc in absurd (omega arith), λ empty. absurd (none-such (empty .0)));

@@ -39,7 +39,7 @@ pub data NoRefusal : List Test → Type 0 where
 -- the whole answer is number n, task t, cost 0 and count 0 exactly when test n is the first that refuses, and names t; every number but 0 is such a one;
 -- and the number is 0 exactly when no test refuses
 pub record AnsweredBy (tests : List Test) (a : Answer) : Type 0 where
-  pub refused : (n t : ℕ) → n ≢ 0 → (a ≡ record { number = n; task = t; cost = 0; rows = 0 }) ↔ FirstRefusal n t tests
+  pub first-refusal : (n t : ℕ) → n ≢ 0 → (a ≡ record { number = n; task = t; cost = 0; rows = 0 }) ↔ FirstRefusal n t tests
   pub by-a-test : a .number ≢ 0 → (t : ℕ) × FirstRefusal (a .number) t tests
   pub passed : (a .number ≡ 0) ↔ NoRefusal tests
 
@@ -61,7 +61,7 @@ pub record Demand1 (s : Setup) (st : State) (c : Call) : Type 0 where
 -- a look answers 13 exactly for a machine that the table does not have, and else 0; a row that it answers is on the machine at the tick; it answers idle
 -- exactly where the table has the machine and no row on it holds the tick
 pub record SeenBy (s : Setup) (v : View) (m tick : ℕ) (seen : Seen) : Type 0 where
-  pub refused : (seen-number seen ≡ 13) ↔ (IsMachine s m → ⊥)
+  pub no-machine : (seen-number seen ≡ 13) ↔ (IsMachine s m → ⊥)
   pub passed : (seen-number seen ≡ 0) ↔ IsMachine s m
   pub sees : (row : Row) → seen-row seen ≡ some row → List·Memᴰ row (v .rows) × RunsAt m tick row
   pub idle : (seen ≡ Idle) ↔ (IsMachine s m × ((row : Row) → List·Memᴰ row (v .rows) → RunsAt m tick row → ⊥))

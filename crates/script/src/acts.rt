@@ -58,7 +58,7 @@ fn with_number(kind: Kind, next: usize) -> NextAct
 }
 
 // The part of the script that starts at the job's first line is handed to the job reader.
-fn submission(input: &[u8], from: usize) -> NextAct
+fn submit_act(input: &[u8], from: usize) -> NextAct
     requires { ⌜ from ≤ length (now input) ⌝ }
     ensures { λ r. ⌜ act-said r ≡ as-act submits from (job-text default-machines (drop from (now (input .entry)))) ⌝ }
 {
@@ -77,7 +77,7 @@ fn submission(input: &[u8], from: usize) -> NextAct
     }
 }
 
-fn withdrawal(input: &[u8], from: usize) -> NextAct
+fn withdraw_act(input: &[u8], from: usize) -> NextAct
     requires { ⌜ from ≤ length (now input) ⌝ }
     ensures { λ r. ⌜ act-said r ≡ number-act withdraws job-key (now (input .entry)) from ⌝ }
 {
@@ -89,7 +89,7 @@ fn withdrawal(input: &[u8], from: usize) -> NextAct
     with_number(Kind::Withdraw(number), from + next)
 }
 
-fn advancement(input: &[u8], from: usize) -> NextAct
+fn advance_act(input: &[u8], from: usize) -> NextAct
     requires { ⌜ from ≤ length (now input) ⌝ }
     ensures { λ r. ⌜ act-said r ≡ number-act advances tick-key (now (input .entry)) from ⌝ }
 {
@@ -108,13 +108,13 @@ pub fn next_act(input: &[u8], at: usize) -> NextAct
 {
     let rest = &input[at..];
     if begins_with(rest, b"act=submit\n") {
-        return submission(input, at + 11);
+        return submit_act(input, at + 11);
     }
     if begins_with(rest, b"act=withdraw\n") {
-        return withdrawal(input, at + 13);
+        return withdraw_act(input, at + 13);
     }
     if begins_with(rest, b"act=clock\n") {
-        return advancement(input, at + 10);
+        return advance_act(input, at + 10);
     }
     without_call(17)
 }

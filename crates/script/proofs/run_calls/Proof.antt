@@ -33,8 +33,8 @@ called c = c .before .before .before
 abbrev applied : tie.After-put-reply Inv-loop μ-loop → tie.After-apply Inv-loop μ-loop
 applied c = c .before .before .before .before
 
-abbrev refused : tie.After-put-refusal Inv-loop μ-loop → tie.After-read2 Inv-loop μ-loop
-refused c = c .before .before .before
+abbrev unread-act : tie.After-put-refusal Inv-loop μ-loop → tie.After-read2 Inv-loop μ-loop
+unread-act c = c .before .before .before
 
 -- the act of a turn is a call
 call-read :
@@ -89,16 +89,16 @@ put-refusal-requires c κs =
 same-length : tie.Need-same-length Inv-loop μ-loop
 same-length c =
     let put = c .before .before in
-    let next = refused put .before .before in
+    let next = unread-act put .before .before in
     put .put-refusal .kept .0 ∙ next .before .before .loop .inv .within .long
 
 returns : tie.Need-returns Inv-loop μ-loop
 returns c =
     let put = c .before .before in
-    let next = refused put .before .before in
+    let next = unread-act put .before .before in
     let turn = next .before in
     let asked = start (turn .before) .pre in
-    let unread = sym (next .next-act .ensures) ∙ ap (λ (t : ActRead). act-read t (next .next-act .result .call)) (refused put .read2 .given .1) in
+    let unread = sym (next .next-act .ensures) ∙ ap (λ (t : ActRead). act-read t (next .next-act .result .call)) (unread-act put .read2 .given .1) in
     running-stops _ _ (asked .few) (asked .room) _ _ _ _ (turn .before .loop .inv) (turn .loop-test .taken) _ _ _ unread (put .put-refusal .ensures)
 
 put-listing-requires : tie.Need-put-listing-requires Inv-loop μ-loop

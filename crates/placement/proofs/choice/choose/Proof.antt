@@ -4,7 +4,7 @@ use Prim.Native.Nat.{_-_, _<_}
 use native.Mathlib.Omega.{arith}
 use borrow.Author.Tests.{not-true, not-false}
 use Rattle.rules.specs.Words.{most-tasks, most-machines}
-use Rattle.rules.proofs.Sums.{less-next, index-below, number-below, next-fits, index-fits}
+use Rattle.rules.proofs.Sums.{index-below, index-fits}
 use Rattle.placement.proofs.Chosen.{Chosen, chosen-none, chosen-unable, chosen-asks, chosen-late, chosen-stays, chosen-taken, chosen-all, run-at}
 use Rattle.placement.proofs.Threading.{threaded-kept}
 use Rattle.placement.proofs.choice.choose.Statement.{statement}
@@ -42,7 +42,7 @@ sub-at : tie.Need-sub-at Inv-loop μ-loop
 sub-at c = c .pre .0 .listed .first
 
 its-below : (c : tie.Start Inv-loop μ-loop) → c .args .task - 1 < most-tasks
-its-below c = number-below (c .pre .0 .listed .first) (c .pre .0 .listed .last) (c .pre .0 .order .tasks)
+its-below c = omega (arith, c .pre .0 .listed .first, c .pre .0 .listed .last, c .pre .0 .order .tasks)
 
 mul-its : tie.Need-mul-its Inv-loop μ-loop
 mul-its c = index-fits _ (its-below c) refl
@@ -63,10 +63,10 @@ element-copy-out-run : tie.Need-element-copy-out-run Inv-loop μ-loop
 element-copy-out-run c = run-below c
 
 add-m : tie.Need-add-m Inv-loop μ-loop
-add-m c = next-fits (run-below (c .before)) refl
+add-m c = omega (arith, run-below (c .before))
 
 loop-less : tie.Need-loop-less Inv-loop μ-loop
-loop-less c = less-next _ _ (c .before .before .if1 .taken)
+loop-less c = omega (arith, c .before .before .if1 .taken)
 
 loop-again : tie.Need-loop-again Inv-loop μ-loop
 loop-again c =
@@ -87,7 +87,7 @@ attempt-requires c κs =
     )
 
 loop-less-2 : tie.Need-loop-less-2 Inv-loop μ-loop
-loop-less-2 c = less-next _ _ (tested-1 (c .before .before .before .before) .if1 .taken)
+loop-less-2 c = omega (arith, tested-1 (c .before .before .before .before) .if1 .taken)
 
 loop-again-2 : tie.Need-loop-again-2 Inv-loop μ-loop
 loop-again-2 c =
@@ -101,7 +101,7 @@ loop-again-2 c =
     (c .if3 .taken)
 
 loop-less-3 : tie.Need-loop-less-3 Inv-loop μ-loop
-loop-less-3 c = less-next _ _ (tested-1 (attempt-arg2-done (c .before .before .before)) .if1 .taken)
+loop-less-3 c = omega (arith, tested-1 (attempt-arg2-done (c .before .before .before)) .if1 .taken)
 
 loop-again-3 : tie.Need-loop-again-3 Inv-loop μ-loop
 loop-again-3 c =
@@ -117,7 +117,7 @@ loop-again-3 c =
     (not-true _ (c .if4 .taken))
 
 loop-less-4 : tie.Need-loop-less-4 Inv-loop μ-loop
-loop-less-4 c = less-next _ _ (tested-1 (attempt-arg2-done (c .before .before .before)) .if1 .taken)
+loop-less-4 c = omega (arith, tested-1 (attempt-arg2-done (c .before .before .before)) .if1 .taken)
 
 loop-again-4 : tie.Need-loop-again-4 Inv-loop μ-loop
 loop-again-4 c =

@@ -6,7 +6,7 @@ use native.Mathlib.Numerals.{add-one}
 use lib.ListN.{length}
 use borrow.Author.Needs.{needs}
 use Rattle.rules.specs.Words.{row-limit}
-use Rattle.rules.proofs.Sums.{less-next, index-below, next-fits, index-fits}
+use Rattle.rules.proofs.Sums.{index-below, index-fits}
 use Rattle.placement.proofs.Mirror.{Filled, filled-none, filled-more}
 use Rattle.placement.specs.Columns.{ColumnOf}
 use Rattle.placement.proofs.Made.{made-none, made-more, made-fewer}
@@ -52,10 +52,10 @@ put-requires c κs =
     (omega arith, at .before .pre .numbered (at .loop .i) (c .before .before .before .before .loop-test .taken))
 
 add-i : tie.Need-add-i Inv-loop μ-loop
-add-i c = next-fits (row-below (turn (c .before))) refl
+add-i c = omega (arith, row-below (turn (c .before)))
 
 loop-less : tie.Need-loop-less Inv-loop μ-loop
-loop-less c = less-next _ _ (turn (c .before) .loop-test .taken)
+loop-less c = omega (arith, turn (c .before) .loop-test .taken)
 
 loop-again : tie.Need-loop-again Inv-loop μ-loop
 loop-again c =

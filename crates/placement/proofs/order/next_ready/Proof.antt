@@ -3,8 +3,9 @@ use mathlib.Core.Logic.{⊎-elim}
 use Prim.Native.Nat.{_-_, _<_}
 use borrow.Author.Tests.{leb-true, leb-false}
 use mathlib.Core.Path.{refl}
+use native.Mathlib.Omega.{arith}
 use Rattle.rules.specs.Words.{most-tasks}
-use Rattle.rules.proofs.Sums.{less-next, index-below, next-fits, index-fits}
+use Rattle.rules.proofs.Sums.{index-below, index-fits}
 use Rattle.placement.proofs.Tasks.{Best, best-none, best-placed, best-waits, best-kept, best-taken, best-found}
 use Rattle.placement.proofs.order.next_ready.Statement.{statement}
 use Rattle.placement.proofs.order.next_ready.Tie as tie
@@ -36,7 +37,7 @@ element-copy-out-its : tie.Need-element-copy-out-its Inv-loop μ-loop
 element-copy-out-its c = its-below c
 
 add-t : tie.Need-add-t Inv-loop μ-loop
-add-t c = next-fits (index-below (c .loop-test .taken) (c .before .before .before .pre .tasks)) refl
+add-t c = omega (arith, index-below (c .loop-test .taken) (c .before .before .before .pre .tasks))
 
 mul-if1 : tie.Need-mul-if1 Inv-loop μ-loop
 mul-if1 c = index-fits _ (its-below c) refl
@@ -45,7 +46,7 @@ element-copy-out-if1 : tie.Need-element-copy-out-if1 Inv-loop μ-loop
 element-copy-out-if1 c = its-below c
 
 loop-less : tie.Need-loop-less Inv-loop μ-loop
-loop-less c = less-next _ _ (c .before .before .loop-test .taken)
+loop-less c = omega (arith, c .before .before .loop-test .taken)
 
 loop-again : tie.Need-loop-again Inv-loop μ-loop
 loop-again c =
@@ -56,7 +57,7 @@ array-read-if2 : tie.Need-array-read-if2 Inv-loop μ-loop
 array-read-if2 c = its-below (c .before .before)
 
 loop-less-2 : tie.Need-loop-less-2 Inv-loop μ-loop
-loop-less-2 c = less-next _ _ (c .before .before .before .loop-test .taken)
+loop-less-2 c = omega (arith, c .before .before .before .loop-test .taken)
 
 loop-again-2 : tie.Need-loop-again-2 Inv-loop μ-loop
 loop-again-2 c =
@@ -65,7 +66,7 @@ loop-again-2 c =
     best-waits (at .before .loop .inv) (start .before .pre) (at .loop-test .taken) (start .waiting .ensures) (c .if2 .taken)
 
 loop-less-3 : tie.Need-loop-less-3 Inv-loop μ-loop
-loop-less-3 c = less-next _ _ (turn (c .before) .loop-test .taken)
+loop-less-3 c = omega (arith, turn (c .before) .loop-test .taken)
 
 loop-again-3 : tie.Need-loop-again-3 Inv-loop μ-loop
 loop-again-3 c =
@@ -82,7 +83,7 @@ loop-again-3 c =
     (leb-true _ _ (c .if4 .taken))
 
 loop-less-4 : tie.Need-loop-less-4 Inv-loop μ-loop
-loop-less-4 c = less-next _ _ (c .before .before .before .before .loop-test .taken)
+loop-less-4 c = omega (arith, c .before .before .before .before .loop-test .taken)
 
 loop-again-4 : tie.Need-loop-again-4 Inv-loop μ-loop
 loop-again-4 c =

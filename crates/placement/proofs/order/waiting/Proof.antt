@@ -3,7 +3,7 @@ use Prim.Native.Nat.{_-_, _<_, _≤_}
 use native.Mathlib.Omega.{arith}
 use mathlib.Core.Path.{refl}
 use Rattle.rules.specs.Words.{most-tasks, most-messages}
-use Rattle.rules.proofs.Sums.{less-next, index-below, listed-below, next-fits, index-fits}
+use Rattle.rules.proofs.Sums.{index-below, index-fits}
 use Rattle.rules.proofs.Indexed.{length-mapped, message-at}
 use Rattle.placement.proofs.Tasks.{Waited, waited-none, waited-placed, waited-unplaced, waited-all, sender-within, receiver-within}
 use Rattle.placement.proofs.order.waiting.Statement.{statement}
@@ -33,7 +33,7 @@ element-copy-out-msg : tie.Need-element-copy-out-msg Inv-loop μ-loop
 element-copy-out-msg c = message-below c
 
 add-i : tie.Need-add-i Inv-loop μ-loop
-add-i c = next-fits (message-below (c .before)) refl
+add-i c = omega (arith, message-below (c .before))
 
 sender :
     (c : tie.In-loop Inv-loop μ-loop) →
@@ -45,10 +45,10 @@ sub-sender : tie.Need-sub-sender Inv-loop μ-loop
 sub-sender c = sender (c .before .before) .0
 
 mul-if1 : tie.Need-mul-if1 Inv-loop μ-loop
-mul-if1 c = index-fits _ (listed-below (sender (c .before .before))) refl
+mul-if1 c = index-fits {bound = most-tasks} _ (omega (arith, sender (c .before .before))) refl
 
 element-copy-out-if1 : tie.Need-element-copy-out-if1 Inv-loop μ-loop
-element-copy-out-if1 c = listed-below (sender (c .before .before))
+element-copy-out-if1 c = omega (arith, sender (c .before .before))
 
 receiver :
     (c : tie.In-loop Inv-loop μ-loop) →
@@ -63,7 +63,7 @@ array-write-waits : tie.Need-array-write-waits Inv-loop μ-loop
 array-write-waits c = let within = receiver (turn (c .before)) in omega arith
 
 loop-less : tie.Need-loop-less Inv-loop μ-loop
-loop-less c = less-next _ _ (turn (c .before) .loop-test .taken)
+loop-less c = omega (arith, turn (c .before) .loop-test .taken)
 
 loop-again : tie.Need-loop-again Inv-loop μ-loop
 loop-again c =
@@ -71,7 +71,7 @@ loop-again c =
     waited-unplaced (at .before .before .pre) (at .before .loop .inv) (at .loop-test .taken) (c .before .if1 .taken)
 
 loop-less-2 : tie.Need-loop-less-2 Inv-loop μ-loop
-loop-less-2 c = less-next _ _ (c .before .before .before .before .loop-test .taken)
+loop-less-2 c = omega (arith, c .before .before .before .before .loop-test .taken)
 
 loop-again-2 : tie.Need-loop-again-2 Inv-loop μ-loop
 loop-again-2 c =

@@ -4,7 +4,7 @@ use Prim.Native.Nat.{_-_, _+_, _<_}
 use native.Mathlib.Omega.{arith}
 use native.Mathlib.Numerals.{add-one}
 use Rattle.rules.specs.Words.{most-messages}
-use Rattle.rules.proofs.Sums.{less-next, index-below, behind-below, below-fits, at-most-fits, next-fits, index-fits}
+use Rattle.rules.proofs.Sums.{index-below, index-fits}
 use Rattle.placement.specs.Placements.{most-own}
 use Rattle.placement.proofs.Appending.{Appending, appending-none, appending-more, appending-all}
 use Rattle.placement.proofs.place.append.Statement.{statement}
@@ -32,7 +32,7 @@ row-below : (c : tie.In-loop Inv-loop μ-loop) → c .before .loop .i < most-mes
 row-below c = index-below (c .loop-test .taken) (c .before .before .before .pre .bounds .count-at-most)
 
 slot-below : (c : tie.In-loop Inv-loop μ-loop) → c .before .before .before .args .own .count + c .before .loop .i < most-own
-slot-below c = behind-below _ _ _ most-own (c .loop-test .taken) (c .before .before .before .pre .rows-fit)
+slot-below c = omega (arith, c .loop-test .taken, c .before .before .before .pre .rows-fit)
 
 mul-row : tie.Need-mul-row Inv-loop μ-loop
 mul-row c = index-fits _ (row-below c) refl
@@ -41,7 +41,7 @@ element-copy-out-row : tie.Need-element-copy-out-row Inv-loop μ-loop
 element-copy-out-row c = row-below c
 
 add-rows : tie.Need-add-rows Inv-loop μ-loop
-add-rows c = below-fits (slot-below (c .before)) refl
+add-rows c = omega (arith, slot-below (c .before))
 
 mul-rows : tie.Need-mul-rows Inv-loop μ-loop
 mul-rows c = index-fits _ (slot-below (c .before)) refl
@@ -58,10 +58,10 @@ put-requires c κs =
     (omega arith, at .before .before .pre .numbered (at .loop .i) (c .before .before .before .before .loop-test .taken))
 
 add-i : tie.Need-add-i Inv-loop μ-loop
-add-i c = next-fits (row-below (turn (c .before))) refl
+add-i c = omega (arith, row-below (turn (c .before)))
 
 loop-less : tie.Need-loop-less Inv-loop μ-loop
-loop-less c = less-next _ _ (turn (c .before) .loop-test .taken)
+loop-less c = omega (arith, turn (c .before) .loop-test .taken)
 
 loop-again : tie.Need-loop-again Inv-loop μ-loop
 loop-again c =
@@ -72,7 +72,7 @@ loop-again c =
     (appending-more (at .before .before .pre) (at .loop .inv) (turn (c .before) .loop-test .taken) _ refl)
 
 add-t25 : tie.Need-add-t25 Inv-loop μ-loop
-add-t25 c = at-most-fits (c .before .before .before .pre .rows-fit) refl
+add-t25 c = omega (arith, c .before .before .before .pre .rows-fit)
 
 add-t27 : tie.Need-add-t27 Inv-loop μ-loop
 add-t27 c = omega arith

@@ -11,7 +11,7 @@ use Rattle.rules.specs.declared.Row.{Row}
 use Rattle.rules.specs.Words.{most-tasks, task-of}
 use Rattle.rules.specs.Placing.{next-task, choice, try}
 use Rattle.rules.specs.Placing.{on-rows}
-use Rattle.rules.proofs.Sums.{less-next, index-below, number-below, next-fits, index-fits, sum-fits}
+use Rattle.rules.proofs.Sums.{index-below, index-fits}
 use Rattle.placement.specs.Columns.{Mirrors}
 use Rattle.placement.specs.Trials.{reach, IsKeptOf}
 use Rattle.placement.specs.Placements.{AskPlace}
@@ -94,7 +94,7 @@ turn-at c =
     (next-at c (start .pre .0 .held) (start .pre .0 .ask) (so-far at))
 
 task-at : (c : tie.Else1 Inv-loop μ-loop) → c .before .next-ready .result - 1 < most-tasks
-task-at c = let turn = turn-at c in number-below (turn .listed .first) (turn .listed .last) (turn .few)
+task-at c = let turn = turn-at c in omega (arith, turn .listed .first, turn .listed .last, turn .few)
 
 -- what is kept of its trials
 kept-at :
@@ -156,7 +156,7 @@ add-release c = let low = floor-low c in omega arith
 
 add-used : tie.Need-add-used Inv-loop μ-loop
 add-used c =
-    sum-fits (start-2 (c .before .before) .pre .0 .ask .count-at-most) (so-far (c .before .before .before .before) .count-at-most) refl
+    omega (arith, start-2 (c .before .before) .pre .0 .ask .count-at-most, so-far (c .before .before .before .before) .count-at-most)
 
 choose-requires : tie.Need-choose-requires Inv-loop μ-loop
 choose-requires c κs =
@@ -203,12 +203,15 @@ element-write-standing-2 : tie.Need-element-write-standing-2 Inv-loop μ-loop
 element-write-standing-2 c = task-at (tested-1 (choose-arg3-done (c .before .before .before .before)))
 
 add-turn : tie.Need-add-turn Inv-loop μ-loop
-add-turn c = next-fits (index-below (turn-2 (choose-arg-done (struct-known2-done (c .before .before)))
-    .loop-test .taken) (turn-at (tested-1 (choose-arg3-done (c .before .before .before .before))) .few)) refl
+add-turn c = omega (
+  arith,
+  index-below (turn-2 (choose-arg-done (struct-known2-done (c .before .before)))
+      .loop-test .taken) (turn-at (tested-1 (choose-arg3-done (c .before .before .before .before))) .few),
+)
 
 loop-less : tie.Need-loop-less Inv-loop μ-loop
 loop-less c =
-    less-next _ _ (turn-2 (choose-arg-done (struct-known2-done (c .before .before))) .loop-test .taken)
+    omega (arith, turn-2 (choose-arg-done (struct-known2-done (c .before .before))) .loop-test .taken)
 
 loop-again : tie.Need-loop-again Inv-loop μ-loop
 loop-again c =

@@ -2,8 +2,7 @@
 use Prim.Native.Nat.{_+_, _<_}
 use native.Mathlib.Omega.{arith}
 use mathlib.Core.Path.{refl}
-use Rattle.rules.proofs.Sums.{below-fits, index-fits}
-use Rattle.placement.proofs.Sums.{thread-place}
+use Rattle.rules.proofs.Sums.{index-fits}
 use Rattle.rules.specs.Codes.{resource-bound}
 use Rattle.placement.specs.Threads.{nodes}
 use Rattle.placement.proofs.Threading.{next-at}
@@ -20,10 +19,10 @@ returns : tie.Need-returns
 returns c = c .next-of .ensures
 
 entry-place : (c : tie.Else1) → resource-bound + c .before .args .at < nodes
-entry-place c = thread-place _ _ (c .if1 .left) (c .before .pre .0 .along .few)
+entry-place c = omega (arith, c .if1 .left, c .before .pre .0 .along .few)
 
 add-threaded-or-own : tie.Need-add-threaded-or-own
-add-threaded-or-own c = below-fits (entry-place c) refl
+add-threaded-or-own c = omega (arith, entry-place c)
 
 mul-threaded-or-own : tie.Need-mul-threaded-or-own
 mul-threaded-or-own c = index-fits _ (entry-place c) refl

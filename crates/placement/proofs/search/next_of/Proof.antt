@@ -2,7 +2,7 @@
 use native.Mathlib.Omega.{arith}
 use Prim.Native.Nat.{_-_, _<_}
 use mathlib.Core.Path.{refl}
-use Rattle.rules.proofs.Sums.{less-next, index-below, next-fits, index-fits}
+use Rattle.rules.proofs.Sums.{index-below, index-fits}
 use Rattle.placement.specs.Columns.{room}
 use Rattle.placement.proofs.Passes.{Looked, looked-more}
 use Rattle.placement.proofs.search.next_of.Statement.{statement}
@@ -32,10 +32,10 @@ returns c =
     record { on = inv .on; within = inv .within; none = inv .none; here = λ _. c .if1 .taken }
 
 add-i : tie.Need-add-i Inv-loop μ-loop
-add-i c = next-fits (entry-below (c .before .before)) refl
+add-i c = omega (arith, entry-below (c .before .before))
 
 loop-less : tie.Need-loop-less Inv-loop μ-loop
-loop-less c = less-next _ _ (c .before .before .loop-test .taken)
+loop-less c = omega (arith, c .before .before .loop-test .taken)
 
 loop-again : tie.Need-loop-again Inv-loop μ-loop
 loop-again c =

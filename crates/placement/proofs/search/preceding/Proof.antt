@@ -1,8 +1,8 @@
 -- `placement::search::preceding` meets its contract.
 use Prim.Native.Nat.{_+_, _<_}
 use mathlib.Core.Path.{refl}
-use Rattle.rules.proofs.Sums.{below-fits, index-fits}
-use Rattle.placement.proofs.Sums.{thread-place, code-place}
+use native.Mathlib.Omega.{arith}
+use Rattle.rules.proofs.Sums.{index-fits}
 use Rattle.rules.specs.Codes.{resource-bound}
 use Rattle.placement.specs.Threads.{nodes}
 use Rattle.placement.proofs.Threading.{last-at, own-last, threaded-last}
@@ -10,10 +10,10 @@ use Rattle.placement.proofs.search.preceding.Statement.{statement}
 use Rattle.placement.proofs.search.preceding.Tie as tie
 
 entry-place : (c : tie.Then1) → resource-bound + c .before .args .at < nodes
-entry-place c = thread-place _ _ (c .if1 .taken) (c .before .pre .0 .along .few)
+entry-place c = omega (arith, c .if1 .taken, c .before .pre .0 .along .few)
 
 add-result : tie.Need-add-result
-add-result c = below-fits (entry-place c) refl
+add-result c = omega (arith, entry-place c)
 
 mul-result : tie.Need-mul-result
 mul-result c = index-fits _ (entry-place c) refl
@@ -33,10 +33,10 @@ returns-2 : tie.Need-returns-2
 returns-2 c = own-last (c .before .after-last-of .ensures) (c .if2 .taken)
 
 mul-result-2 : tie.Need-mul-result-2
-mul-result-2 c = index-fits _ (code-place _ (c .before .before .before .pre .0 .along .known)) refl
+mul-result-2 c = index-fits {bound = nodes} _ (omega (arith, c .before .before .before .pre .0 .along .known)) refl
 
 element-copy-out-result-2 : tie.Need-element-copy-out-result-2
-element-copy-out-result-2 c = code-place _ (c .before .before .before .pre .0 .along .known)
+element-copy-out-result-2 c = omega (arith, c .before .before .before .pre .0 .along .known)
 
 returns-3 : tie.Need-returns-3
 returns-3 c =

@@ -5,7 +5,6 @@ use native.Mathlib.Numerals.{add-one}
 use Prim.Native.Nat.{ℕ, suc, _+_, _-_, _<_}
 use lib.ListN.{getD}
 use Rattle.rules.proofs.Sums.{index-below, index-fits}
-use Rattle.placement.proofs.Sums.{code-place}
 use Rattle.placement.specs.Columns.{room}
 use Rattle.placement.specs.Threads.{nodes}
 use Rattle.placement.proofs.Passes.{Swept, swept-none, swept-more, swept-skip, at-own}
@@ -31,7 +30,7 @@ entry-below : (c : tie.In-loop Inv-loop μ-loop) → c .before .loop .i < room
 entry-below c = index-below (c .loop-test .taken) (c .before .before .before .before .pre .0 .spans .within)
 
 code-there : (c : tie.Start Inv-loop μ-loop) → c .args .code < nodes
-code-there c = code-place _ (c .pre .1 .0 .known)
+code-there c = omega (arith, c .pre .1 .0 .known)
 
 mul-threaded-or-own : tie.Need-mul-threaded-or-own Inv-loop μ-loop
 mul-threaded-or-own c = index-fits _ (code-there c) refl

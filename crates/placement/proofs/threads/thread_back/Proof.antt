@@ -3,8 +3,7 @@ use Prim.Native.Nat.{_-_, _+_, _<_}
 use native.Mathlib.Omega.{arith}
 use lib.ListN.{getD}
 use mathlib.Core.Path.{refl}
-use Rattle.rules.proofs.Sums.{less-next, below-fits, next-fits, index-fits}
-use Rattle.placement.proofs.Sums.{thread-place, code-place}
+use Rattle.rules.proofs.Sums.{index-fits}
 use Rattle.placement.specs.Columns.{room}
 use Rattle.rules.specs.Codes.{resource-bound}
 use Rattle.placement.specs.Threads.{nodes}
@@ -26,10 +25,10 @@ entry-below : (c : tie.In-loop Inv-loop μ-loop) → c .before .loop .i < room
 entry-below c = omega (arith, c .loop-test .taken, c .before .before .pre .0 .few)
 
 entry-place : (c : tie.In-loop Inv-loop μ-loop) → resource-bound + c .before .loop .i < nodes
-entry-place c = thread-place _ _ (c .loop-test .taken) (c .before .before .pre .0 .few)
+entry-place c = omega (arith, c .loop-test .taken, c .before .before .pre .0 .few)
 
 code-known : (c : tie.In-loop Inv-loop μ-loop) → getD (c .before .before .args .resources .now) (c .before .loop .i) 0 < nodes
-code-known c = code-place _ (c .before .before .pre .0 .known _ (c .loop-test .taken))
+code-known c = omega (arith, c .before .before .pre .0 .known _ (c .loop-test .taken))
 
 mul-code : tie.Need-mul-code Inv-loop μ-loop
 mul-code c = index-fits _ (entry-below c) refl
@@ -44,7 +43,7 @@ element-copy-out-back : tie.Need-element-copy-out-back Inv-loop μ-loop
 element-copy-out-back c = code-known (c .before)
 
 add-backs : tie.Need-add-backs Inv-loop μ-loop
-add-backs c = below-fits (entry-place (c .before .before)) refl
+add-backs c = omega (arith, entry-place (c .before .before))
 
 mul-backs : tie.Need-mul-backs Inv-loop μ-loop
 mul-backs c = index-fits _ (entry-place (c .before .before)) refl
@@ -53,7 +52,7 @@ element-write-backs : tie.Need-element-write-backs Inv-loop μ-loop
 element-write-backs c = entry-place (c .before .before)
 
 add-i : tie.Need-add-i Inv-loop μ-loop
-add-i c = next-fits (entry-below (c .before .before)) refl
+add-i c = omega (arith, entry-below (c .before .before))
 
 mul-backs-2 : tie.Need-mul-backs-2 Inv-loop μ-loop
 mul-backs-2 c = index-fits _ (code-known (c .before .before)) refl
@@ -62,7 +61,7 @@ element-write-backs-2 : tie.Need-element-write-backs-2 Inv-loop μ-loop
 element-write-backs-2 c = code-known (c .before .before)
 
 loop-less : tie.Need-loop-less Inv-loop μ-loop
-loop-less c = less-next _ _ (c .before .before .loop-test .taken)
+loop-less c = omega (arith, c .before .before .loop-test .taken)
 
 loop-again : tie.Need-loop-again Inv-loop μ-loop
 loop-again c = made-back-more (c .before .before .before .before .pre .0) (c .before .before .before .loop .inv) (c .before .before .loop-test .taken)

@@ -3,8 +3,7 @@ use Prim.Native.Nat.{_-_, _+_, _<_}
 use native.Mathlib.Omega.{arith}
 use lib.ListN.{getD}
 use mathlib.Core.Path.{refl}
-use Rattle.rules.proofs.Sums.{below-fits, index-fits}
-use Rattle.placement.proofs.Sums.{thread-place, code-place}
+use Rattle.rules.proofs.Sums.{index-fits}
 use Rattle.placement.specs.Columns.{room}
 use Rattle.rules.specs.Codes.{resource-bound}
 use Rattle.placement.specs.Threads.{nodes}
@@ -29,10 +28,10 @@ entry-below : (c : tie.In-loop Inv-loop μ-loop) → c .before .loop .left - 1 <
 entry-below c = let there = entry-there c in omega (arith, c .before .before .pre .0 .few)
 
 entry-place : (c : tie.In-loop Inv-loop μ-loop) → resource-bound + (c .before .loop .left - 1) < nodes
-entry-place c = thread-place _ _ (entry-there c) (c .before .before .pre .0 .few)
+entry-place c = omega (arith, entry-there c, c .before .before .pre .0 .few)
 
 code-known : (c : tie.In-loop Inv-loop μ-loop) → getD (c .before .before .args .resources .now) (c .before .loop .left - 1) 0 < nodes
-code-known c = code-place _ (c .before .before .pre .0 .known _ (entry-there c))
+code-known c = omega (arith, c .before .before .pre .0 .known _ (entry-there c))
 
 sub-left : tie.Need-sub-left Inv-loop μ-loop
 sub-left c = c .loop-test .taken
@@ -50,7 +49,7 @@ element-copy-out-next : tie.Need-element-copy-out-next Inv-loop μ-loop
 element-copy-out-next c = code-known (c .before)
 
 add-nexts : tie.Need-add-nexts Inv-loop μ-loop
-add-nexts c = below-fits (entry-place (c .before .before)) refl
+add-nexts c = omega (arith, entry-place (c .before .before))
 
 mul-nexts : tie.Need-mul-nexts Inv-loop μ-loop
 mul-nexts c = index-fits _ (entry-place (c .before .before)) refl

@@ -4,7 +4,7 @@ use Prim.Native.Nat.{ℕ, _+_, _*_, _^_, _<_, _≤_}
 use native.Mathlib.Omega.{arith}
 use Rattle.rules.specs.Words.{most-messages}
 use Rattle.rules.specs.Bounds.{largest-cost}
-use Rattle.rules.proofs.Sums.{next-fits, index-fits}
+use Rattle.rules.proofs.Sums.{index-fits}
 use Rattle.placement.proofs.Attempts.{attempt-searchable, attempt-there, ask-own, own-figures, attempt-made}
 use Rattle.rules.proofs.Numbers.{machine-below}
 use Rattle.placement.proofs.Threading.{threaded-kept}
@@ -64,7 +64,7 @@ array-set-from-rows : tie.Need-array-set-from-rows
 array-set-from-rows c = own-at c .0
 
 add-t26 : tie.Need-add-t26
-add-t26 c = next-fits (own-at c .0) refl
+add-t26 c = omega (arith, own-at c .0)
 
 add-t30 : tie.Need-add-t30
 add-t30 c = let few = own-at (c .before .before) .1 in omega arith

@@ -8,7 +8,7 @@ use borrow.Author.Tests.{not-true, not-false}
 use Rattle.rules.specs.declared.Message.{Message}
 use Rattle.rules.specs.Words.{most-messages, most-tasks}
 use Rattle.rules.specs.Placing.{crosses}
-use Rattle.rules.proofs.Sums.{less-next, index-below, listed-below, below-fits, next-fits, index-fits}
+use Rattle.rules.proofs.Sums.{index-below, index-fits}
 use Rattle.rules.proofs.Indexed.{length-mapped}
 use Rattle.placement.specs.Columns.{room}
 use Rattle.rules.specs.Codes.{Numbered}
@@ -85,10 +85,10 @@ element-copy-out-msg : tie.Need-element-copy-out-msg Inv-loop μ-loop
 element-copy-out-msg c = message-below c
 
 add-i : tie.Need-add-i Inv-loop μ-loop
-add-i c = next-fits (message-below (c .before)) refl
+add-i c = omega (arith, message-below (c .before))
 
 loop-less : tie.Need-loop-less Inv-loop μ-loop
-loop-less c = less-next _ _ (c .before .before .before .loop-test .taken)
+loop-less c = omega (arith, c .before .before .before .loop-test .taken)
 
 loop-again : tie.Need-loop-again Inv-loop μ-loop
 loop-again c =
@@ -100,19 +100,19 @@ sub-sender : tie.Need-sub-sender Inv-loop μ-loop
 sub-sender c = sender-at (c .before .before .before .before) .0
 
 mul-a : tie.Need-mul-a Inv-loop μ-loop
-mul-a c = index-fits _ (listed-below (sender-at (c .before .before .before .before))) refl
+mul-a c = index-fits {bound = most-tasks} _ (omega (arith, sender-at (c .before .before .before .before))) refl
 
 element-copy-out-a : tie.Need-element-copy-out-a Inv-loop μ-loop
-element-copy-out-a c = listed-below (sender-at (c .before .before .before .before))
+element-copy-out-a c = omega (arith, sender-at (c .before .before .before .before))
 
 mul-done : tie.Need-mul-done Inv-loop μ-loop
-mul-done c = index-fits _ (listed-below (sender-at (turn-2 (c .before)))) refl
+mul-done c = index-fits {bound = most-tasks} _ (omega (arith, sender-at (turn-2 (c .before)))) refl
 
 element-copy-out-done : tie.Need-element-copy-out-done Inv-loop μ-loop
-element-copy-out-done c = listed-below (sender-at (turn-2 (c .before)))
+element-copy-out-done c = omega (arith, sender-at (turn-2 (c .before)))
 
 loop-less-2 : tie.Need-loop-less-2 Inv-loop μ-loop
-loop-less-2 c = less-next _ _ (turn-2 (struct-known2-done (c .before)) .loop-test .taken)
+loop-less-2 c = omega (arith, turn-2 (struct-known2-done (c .before)) .loop-test .taken)
 
 loop-again-2 : tie.Need-loop-again-2 Inv-loop μ-loop
 loop-again-2 c =
@@ -132,7 +132,7 @@ crossing :
 crossing c = sym (c .before .crosses .ensures) ∙ not-false _ (c .if2 .left)
 
 add-try-message : tie.Need-add-try-message Inv-loop μ-loop
-add-try-message c = below-fits (room-at (turn-2 (struct-known2-done-2 (c .before .before .before)))) refl
+add-try-message c = omega (arith, room-at (turn-2 (struct-known2-done-2 (c .before .before .before))))
 
 try-message-requires : tie.Need-try-message-requires Inv-loop μ-loop
 try-message-requires c κs =
@@ -146,7 +146,7 @@ try-message-requires c κs =
     )
 
 add-put : tie.Need-add-put Inv-loop μ-loop
-add-put c = below-fits (room-at (turn-2 (struct-known2-done-2 (c .before .before .before .before)))) refl
+add-put c = omega (arith, room-at (turn-2 (struct-known2-done-2 (c .before .before .before .before))))
 
 row-is-fit :
     (c : tie.After-try-message Inv-loop μ-loop) →
@@ -177,8 +177,11 @@ add-count : tie.Need-add-count Inv-loop μ-loop
 add-count c = let few = row-is-fit (try-message-done (c .before .before)) .2 in omega arith
 
 loop-less-3 : tie.Need-loop-less-3 Inv-loop μ-loop
-loop-less-3 c = less-next _ _ (tested-1 (crosses-done (try-message-arg3-done (c .before .before .before)))
-    .before .before .before .loop-test .taken)
+loop-less-3 c = omega (
+  arith,
+  tested-1 (crosses-done (try-message-arg3-done (c .before .before .before)))
+      .before .before .before .loop-test .taken,
+)
 
 loop-again-3 : tie.Need-loop-again-3 Inv-loop μ-loop
 loop-again-3 c =

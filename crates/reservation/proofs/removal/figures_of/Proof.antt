@@ -2,8 +2,9 @@
 use mathlib.Core.Path.{refl}
 use Prim.Native.Nat.{_-_, _<_}
 use native.Mathlib.Numerals.{add-one}
+use native.Mathlib.Omega.{arith}
 use Rattle.rules.specs.Words.{row-limit}
-use Rattle.rules.proofs.Sums.{less-next, index-below, next-fits, index-fits}
+use Rattle.rules.proofs.Sums.{index-below, index-fits}
 use Rattle.placement.specs.Columns.{ColumnOf}
 use Rattle.placement.proofs.Made.{made-none, made-more, made-fewer}
 use Rattle.reservation.proofs.removal.figures_of.Statement.{statement}
@@ -60,10 +61,10 @@ element-write-figures-3 : tie.Need-element-write-figures-3 Inv-loop μ-loop
 element-write-figures-3 c = row-below c
 
 add-i : tie.Need-add-i Inv-loop μ-loop
-add-i c = next-fits (row-below c) refl
+add-i c = omega (arith, row-below c)
 
 loop-less : tie.Need-loop-less Inv-loop μ-loop
-loop-less c = less-next _ _ (c .loop-test .taken)
+loop-less c = omega (arith, c .loop-test .taken)
 
 loop-again : tie.Need-loop-again Inv-loop μ-loop
 loop-again c =

@@ -4,8 +4,9 @@ use native.Mathlib.Numerals.{add-one}
 use lib.Dec.{ltb}
 use borrow.Author.Tests.{lt-ltb, le-ltb}
 use mathlib.Core.Path.{refl}
+use native.Mathlib.Omega.{arith}
 use Rattle.rules.specs.Words.{row-limit}
-use Rattle.rules.proofs.Sums.{less-next, index-below, next-fits, index-fits}
+use Rattle.rules.proofs.Sums.{index-below, index-fits}
 use Rattle.reservation.proofs.Scans.{NoneFound, found-none, found-other, found-fails, found-one, found-all, found-ended}
 use Rattle.reservation.proofs.removal.job_ended.Statement.{statement}
 use Rattle.reservation.proofs.removal.job_ended.Tie as tie
@@ -35,10 +36,10 @@ element-copy-out-finish : tie.Need-element-copy-out-finish Inv-loop μ-loop
 element-copy-out-finish c = row-below (c .before)
 
 add-i : tie.Need-add-i Inv-loop μ-loop
-add-i c = next-fits (row-below (c .before .before)) refl
+add-i c = omega (arith, row-below (c .before .before))
 
 loop-less : tie.Need-loop-less Inv-loop μ-loop
-loop-less c = less-next _ _ (c .before .before .before .loop-test .taken)
+loop-less c = omega (arith, c .before .before .before .loop-test .taken)
 
 loop-again : tie.Need-loop-again Inv-loop μ-loop
 loop-again c =
@@ -51,7 +52,7 @@ returns c =
     found-ended _ _ _ _ _ (found-one _ _ _ _ _ _ (turn .before .before .pre) (turn .loop-test .taken) (c .before .if1 .left) (lt-ltb _ _ (c .if2 .taken)))
 
 loop-less-2 : tie.Need-loop-less-2 Inv-loop μ-loop
-loop-less-2 c = less-next _ _ (c .before .before .before .before .loop-test .taken)
+loop-less-2 c = omega (arith, c .before .before .before .before .loop-test .taken)
 
 loop-again-2 : tie.Need-loop-again-2 Inv-loop μ-loop
 loop-again-2 c =

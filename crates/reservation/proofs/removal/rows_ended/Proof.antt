@@ -7,7 +7,7 @@ use native.Mathlib.Omega.{arith}
 use native.Mathlib.Numerals.{add-one}
 use borrow.Author.Tests.{lt-ltb}
 use Rattle.rules.specs.Words.{row-limit}
-use Rattle.rules.proofs.Sums.{less-next, index-below, next-fits, index-fits}
+use Rattle.rules.proofs.Sums.{index-below, index-fits}
 use Rattle.reservation.proofs.Scans.{found-one, found-ended}
 use Rattle.reservation.proofs.Removed.{Ending, ending-none, ending-more, ending-all}
 use Rattle.reservation.proofs.removal.rows_ended.Statement.{statement}
@@ -53,10 +53,10 @@ array-write-leaves : tie.Need-array-write-leaves Inv-loop μ-loop
 array-write-leaves c = row-below (c .before .before .before)
 
 add-i : tie.Need-add-i Inv-loop μ-loop
-add-i c = next-fits (row-below (c .before .before .before)) refl
+add-i c = omega (arith, row-below (c .before .before .before))
 
 loop-less : tie.Need-loop-less Inv-loop μ-loop
-loop-less c = less-next _ _ (c .before .before .before .loop-test .taken)
+loop-less c = omega (arith, c .before .before .before .loop-test .taken)
 
 -- the row is still to end, or its job was asked just now, or its job is the one asked last
 loop-again : tie.Need-loop-again Inv-loop μ-loop

@@ -2,8 +2,9 @@
 use Prim.Native.Nat.{_-_, _<_}
 use native.Mathlib.Numerals.{add-one}
 use mathlib.Core.Path.{refl}
+use native.Mathlib.Omega.{arith}
 use Rattle.rules.specs.Words.{row-limit}
-use Rattle.rules.proofs.Sums.{less-next, index-below, kept-below, next-fits, index-fits}
+use Rattle.rules.proofs.Sums.{index-below, index-fits}
 use Rattle.reservation.proofs.Removed.{Removing, removing-none, cost-there, removing-gone, removing-stays, removing-all}
 use Rattle.reservation.proofs.removal.without.Statement.{statement}
 use Rattle.reservation.proofs.removal.without.Tie as tie
@@ -22,7 +23,7 @@ row-below : (c : tie.In-loop Inv-loop μ-loop) → c .before .loop .i < row-limi
 row-below c = index-below (c .loop-test .taken) (c .before .before .before .pre .count-at-most)
 
 slot-kept : (c : tie.In-loop Inv-loop μ-loop) → c .before .loop .kept < row-limit
-slot-kept c = kept-below (c .before .loop .inv .kept-at-most) (c .loop-test .taken) (c .before .before .before .pre .count-at-most)
+slot-kept c = omega (arith, c .before .loop .inv .kept-at-most, c .loop-test .taken, c .before .before .before .pre .count-at-most)
 
 mul-row : tie.Need-mul-row Inv-loop μ-loop
 mul-row c = index-fits _ (row-below c) refl
@@ -34,7 +35,7 @@ array-read-gone : tie.Need-array-read-gone Inv-loop μ-loop
 array-read-gone c = row-below (c .before)
 
 add-i : tie.Need-add-i Inv-loop μ-loop
-add-i c = next-fits (row-below (c .before)) refl
+add-i c = omega (arith, row-below (c .before))
 
 sub-total : tie.Need-sub-total Inv-loop μ-loop
 sub-total c =
@@ -42,7 +43,7 @@ sub-total c =
     cost-there (at .before .before .pre) (at .loop .inv) (c .before .before .before .loop-test .taken)
 
 loop-less : tie.Need-loop-less Inv-loop μ-loop
-loop-less c = less-next _ _ (c .before .before .before .loop-test .taken)
+loop-less c = omega (arith, c .before .before .before .loop-test .taken)
 
 loop-again : tie.Need-loop-again Inv-loop μ-loop
 loop-again c =
@@ -56,10 +57,10 @@ array-set-from-rows : tie.Need-array-set-from-rows Inv-loop μ-loop
 array-set-from-rows c = slot-kept (c .before .before)
 
 add-kept : tie.Need-add-kept Inv-loop μ-loop
-add-kept c = next-fits (slot-kept (c .before .before)) refl
+add-kept c = omega (arith, slot-kept (c .before .before))
 
 loop-less-2 : tie.Need-loop-less-2 Inv-loop μ-loop
-loop-less-2 c = less-next _ _ (c .before .before .loop-test .taken)
+loop-less-2 c = omega (arith, c .before .before .loop-test .taken)
 
 loop-again-2 : tie.Need-loop-again-2 Inv-loop μ-loop
 loop-again-2 c =

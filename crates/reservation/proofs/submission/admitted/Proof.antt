@@ -5,7 +5,7 @@ use native.Mathlib.Omega.{arith}
 use native.Mathlib.Numerals.{add-one}
 use Rattle.placement.specs.Placements.{most-own}
 use Rattle.rules.specs.Words.{row-limit}
-use Rattle.rules.proofs.Sums.{less-next, index-below, behind-below, below-fits, at-most-fits, next-fits, index-fits}
+use Rattle.rules.proofs.Sums.{index-below, index-fits}
 use Rattle.reservation.proofs.Admission.{Filling, filling-none, filling-more, total-fits, filled}
 use Rattle.reservation.proofs.submission.admitted.Statement.{statement}
 use Rattle.reservation.proofs.submission.admitted.Tie as tie
@@ -28,7 +28,7 @@ row-below : (c : tie.In-loop Inv-loop μ-loop) → c .before .loop .i < most-own
 row-below c = index-below (c .loop-test .taken) (c .before .before .before .pre .found-at-most)
 
 slot-at : (c : tie.In-loop Inv-loop μ-loop) → c .before .before .before .args .register .count + c .before .loop .i < row-limit
-slot-at c = behind-below _ _ _ row-limit (c .loop-test .taken) (c .before .before .before .pre .fits)
+slot-at c = omega (arith, c .loop-test .taken, c .before .before .before .pre .fits)
 
 mul-row : tie.Need-mul-row Inv-loop μ-loop
 mul-row c = index-fits _ (row-below c) refl
@@ -37,7 +37,7 @@ element-copy-out-row : tie.Need-element-copy-out-row Inv-loop μ-loop
 element-copy-out-row c = row-below c
 
 add-rows : tie.Need-add-rows Inv-loop μ-loop
-add-rows c = below-fits (slot-at (c .before)) refl
+add-rows c = omega (arith, slot-at (c .before))
 
 mul-rows : tie.Need-mul-rows Inv-loop μ-loop
 mul-rows c = index-fits _ (slot-at (c .before)) refl
@@ -46,10 +46,10 @@ array-set-from-rows : tie.Need-array-set-from-rows Inv-loop μ-loop
 array-set-from-rows c = slot-at (c .before)
 
 add-i : tie.Need-add-i Inv-loop μ-loop
-add-i c = next-fits (row-below (c .before)) refl
+add-i c = omega (arith, row-below (c .before))
 
 loop-less : tie.Need-loop-less Inv-loop μ-loop
-loop-less c = less-next _ _ (c .before .loop-test .taken)
+loop-less c = omega (arith, c .before .loop-test .taken)
 
 loop-again : tie.Need-loop-again Inv-loop μ-loop
 loop-again c =
@@ -57,7 +57,7 @@ loop-again c =
     rw (add-one (at .loop .i)) (filling-more (at .before .before .pre) (at .loop .inv) (c .before .loop-test .taken) _ refl)
 
 add-t18 : tie.Need-add-t18 Inv-loop μ-loop
-add-t18 c = at-most-fits (c .before .before .before .before .pre .fits) refl
+add-t18 c = omega (arith, c .before .before .before .before .pre .fits)
 
 add-t21 : tie.Need-add-t21 Inv-loop μ-loop
 add-t21 c = let fit = total-fits (start (c .before) .pre) in omega arith

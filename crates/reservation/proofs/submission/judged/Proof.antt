@@ -1,8 +1,8 @@
 -- `reservation::submission::judged` meets its contract: the first test that refuses answers, and else what placing found is settled.
 use mathlib.Core.Path.{_≡_, refl, sym, _∙_}
 use Prim.Native.Nat.{_+_}
-use Rattle.rules.proofs.Sums.{at-most-fits}
 use mathlib.Core.Bool.{false}
+use native.Mathlib.Omega.{arith}
 use Rattle.rules.specs.Words.{view}
 use Rattle.placement.specs.Placements.{AskPlace, PlacementIs}
 use Rattle.placement.proofs.Placed.{ask-fill}
@@ -100,7 +100,7 @@ free c = feasible c .before .before
 add-base : tie.Need-add-base
 add-base c =
     let at = past-early (filled (c .before .before .before .before)) in
-    at-most-fits (ask-at at .base-at-most) refl
+    omega (arith, ask-at at .base-at-most)
 
 place-requires : tie.Need-place-requires
 place-requires c κs =

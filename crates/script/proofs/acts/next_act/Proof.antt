@@ -52,18 +52,18 @@ first-no c = first (c .before) false (c .if1 .left)
 second-no : (c : tie.Else2) → begins withdraw-line (rest (from-2 (c .before))) ≡ false
 second-no c = second (c .before) false (c .if2 .left)
 
-submission-requires : tie.Need-submission-requires
-submission-requires c κs =
+submit-act-requires : tie.Need-submit-act-requires
+submit-act-requires c κs =
     let s = from-1 (c .before) in
     act-fits (text s) (s .args .at) (s .pre) submit-line (first (c .before) true (c .if1 .taken))
 
 returns : tie.Need-returns
 returns c =
     let s = from-1 (c .before .before) in
-    c .submission .ensures ∙ sym (at-submit default-machines (text s) (s .args .at) (s .pre) (first (c .before .before) true (c .before .if1 .taken)))
+    c .submit-act .ensures ∙ sym (at-submit default-machines (text s) (s .args .at) (s .pre) (first (c .before .before) true (c .before .if1 .taken)))
 
-withdrawal-requires : tie.Need-withdrawal-requires
-withdrawal-requires c κs =
+withdraw-act-requires : tie.Need-withdraw-act-requires
+withdraw-act-requires c κs =
     let s = from-2 (c .before) in
     act-fits (text s) (s .args .at) (s .pre) withdraw-line (second (c .before) true (c .if2 .taken))
 
@@ -72,10 +72,10 @@ returns-2 c =
     let compared = c .before .before in
     let s = from-2 compared in
     let yes = second compared true (c .before .if2 .taken) in
-    c .withdrawal .ensures ∙ sym (at-withdraw default-machines (text s) (s .args .at) (s .pre) (first-no (compared .before .before)) yes)
+    c .withdraw-act .ensures ∙ sym (at-withdraw default-machines (text s) (s .args .at) (s .pre) (first-no (compared .before .before)) yes)
 
-advancement-requires : tie.Need-advancement-requires
-advancement-requires c κs =
+advance-act-requires : tie.Need-advance-act-requires
+advance-act-requires c κs =
     let s = from-3 (c .before) in
     act-fits (text s) (s .args .at) (s .pre) clock-line (third (c .before) true (c .if3 .taken))
 
@@ -85,7 +85,7 @@ returns-3 c =
     let s = from-3 compared in
     let no = compared .before .before in
     let yes = third compared true (c .before .if3 .taken) in
-    c .advancement .ensures ∙ sym (at-clock default-machines (text s) (s .args .at) (s .pre) (first-no (no .before .before .before)) (second-no no) yes)
+    c .advance-act .ensures ∙ sym (at-clock default-machines (text s) (s .args .at) (s .pre) (first-no (no .before .before .before)) (second-no no) yes)
 
 returns-4 : tie.Need-returns-4
 returns-4 c =
@@ -105,17 +105,17 @@ next-act-spec =
     (λ c. search needs)
     (λ c κs. search needs)
     (λ c. search needs)
-    submission-requires
+    submit-act-requires
     returns
     (λ c. search needs)
     (λ c κs. search needs)
     (λ c. search needs)
-    withdrawal-requires
+    withdraw-act-requires
     returns-2
     (λ c. search needs)
     (λ c κs. search needs)
     (λ c. search needs)
-    advancement-requires
+    advance-act-requires
     returns-3
     (λ c κs. search needs)
     returns-4)

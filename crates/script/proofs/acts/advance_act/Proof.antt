@@ -1,16 +1,16 @@
--- `script::acts::withdrawal` meets its contract.
+-- `script::acts::advance_act` meets its contract.
 use mathlib.Core.Path.{ap, _∙_}
 use native.Mathlib.Omega.{arith}
 use lib.ListN.{length-drop}
 use borrow.Author.Needs.{needs}
 use Rattle.lines.specs.Lines.{Due}
-use Rattle.rules.specs.Refusals.{withdraws}
-use Rattle.reservation.specs.declared.calls.Kind.the-variants.{Withdraw}
-use Rattle.script.specs.Keys.{job-key}
+use Rattle.rules.specs.Refusals.{advances}
+use Rattle.reservation.specs.declared.calls.Kind.the-variants.{Advance}
+use Rattle.script.specs.Keys.{tick-key}
 use Rattle.script.specs.Acts.{unread}
 use Rattle.script.proofs.Acted.{said-call, number-read, number-unread, number-within}
-use Rattle.script.proofs.acts.withdrawal.Statement.{statement}
-use Rattle.script.proofs.acts.withdrawal.Tie as tie
+use Rattle.script.proofs.acts.advance_act.Statement.{statement}
+use Rattle.script.proofs.acts.advance_act.Tie as tie
 
 -- The stops: the start, the line that is due, and the line as it was read.
 
@@ -36,14 +36,14 @@ returns c =
     let a = start (due read) .args in
     c .without-call .ensures
     ∙ ap unread (c .before .reading-number .ensures)
-    ∙ number-unread withdraws job-key (a .input .now) (a .from) _ line _ (read .read-line .ensures) _ _ (told .enum-told .given .1)
+    ∙ number-unread advances tick-key (a .input .now) (a .from) _ line _ (read .read-line .ensures) _ _ (told .enum-told .given .1)
 
 add-with-number : tie.Need-add-with-number
 add-with-number c =
     let read = line-read (c .before) in
     let line = due read .any-figure .ensures in
     let s = start (due read) in
-    let within = number-within withdraws job-key (s .args .input .now) (s .args .from) _ line _ (read .read-line .ensures) _ _ (c .before .line .given .1) in
+    let within = number-within advances tick-key (s .args .input .now) (s .args .from) _ line _ (read .read-line .ensures) _ _ (c .before .line .given .1) in
     omega (arith, length-drop (s .args .from) (s .args .input .now), s .good)
 
 returns-2 : tie.Need-returns-2
@@ -52,11 +52,11 @@ returns-2 c =
     let read = line-read (c .before .before) in
     let line = due read .any-figure .ensures in
     let a = start (due read) .args in
-    said-call _ _ (Withdraw (given .0 .0)) (c .with-number .ensures .0) (c .with-number .ensures .1)
-    ∙ number-read withdraws job-key (a .input .now) (a .from) _ line _ (read .read-line .ensures) _ _ (given .1)
+    said-call _ _ (Advance (given .0 .0)) (c .with-number .ensures .0) (c .with-number .ensures .1)
+    ∙ number-read advances tick-key (a .input .now) (a .from) _ line _ (read .read-line .ensures) _ _ (given .1)
 
-pub withdrawal-spec : {M : Type 1} → statement M
-withdrawal-spec =
+pub advance-act-spec : {M : Type 1} → statement M
+advance-act-spec =
     tie.close
     (tie.spec
     (λ c κs. search needs)

@@ -1,4 +1,4 @@
--- `script::acts::submission` meets its contract.
+-- `script::acts::submit_act` meets its contract.
 use mathlib.Core.Path.{ap, _∙_}
 use native.Mathlib.Omega.{arith}
 use lib.ListN.{length-drop}
@@ -6,8 +6,8 @@ use borrow.Author.Needs.{needs}
 use Rattle.texts.specs.Reader.{default-machines}
 use Rattle.script.specs.Acts.{unread}
 use Rattle.script.proofs.Acted.{job-read, job-read-within, job-unread}
-use Rattle.script.proofs.acts.submission.Statement.{statement}
-use Rattle.script.proofs.acts.submission.Tie as tie
+use Rattle.script.proofs.acts.submit_act.Statement.{statement}
+use Rattle.script.proofs.acts.submit_act.Tie as tie
 
 -- The stops: the start, and the job as it was read.
 
@@ -39,8 +39,8 @@ returns-2 c =
     let a = start read .args in
     job-read default-machines (a .input .now) (a .from) _ (read .read-job .ensures) _ _ (c .before .before .reading .given .1)
 
-pub submission-spec : {M : Type 1} → statement M
-submission-spec =
+pub submit-act-spec : {M : Type 1} → statement M
+submit-act-spec =
     tie.close
     (tie.spec
     (λ c. search needs)

@@ -1,3 +1,4 @@
 -- Laws that the functions' proofs cite.
 pub mod Places
 pub mod Pairs
+pub mod Lent

@@ -1,7 +1,7 @@
 -- Where the links of a table stand in its row: their places lie within it, and a row whose count is a setup's has that setup's figures there.
 use mathlib.Core.Path.{_≡_, ap, _∙_}
 use mathlib.Core.List.{List}
-use Prim.Native.Nat.{ℕ, suc, _+_, _-_, _*_, _≤_}
+use Prim.Native.Nat.{ℕ, suc, _+_, _-_, _*_, _≤_, _<_}
 use native.Mathlib.Nat.{suc-mul, mul-le-mul}
 use native.Mathlib.Omega.{arith}
 use lib.ListN.{getD}
@@ -9,14 +9,16 @@ use Rattle.rules.specs.declared.Setup.{Setup}
 use Rattle.rules.specs.Words.{most-machines, rate, link-time, link-rate}
 use Rattle.figures.specs.Tables.{machines-said, pair-place, TableOf, AskMachine, AskPair}
 
--- the links of a machine leave room for those of the machines after it
-pub pair-room : {machines a b : ℕ} → AskPair machines a b → (a - 1) * machines + machines ≤ most-machines * most-machines
-pair-room {machines} {a} {b} ask =
-    let more = suc-mul (a - 1) machines in
-    let few = ask .room in
-    let one : suc (a - 1) ≤ most-machines = let f = ask .first in omega arith in
+-- the links from the machine at an index, behind those from the machines before it, are no more than there is room for
+pub rows-room : {machines a : ℕ} → machines ≤ most-machines → a < machines → a * machines + machines ≤ most-machines * most-machines
+rows-room {machines} {a} few listed =
+    let more = suc-mul a machines in
+    let one : suc a ≤ most-machines = omega arith in
     let all = mul-le-mul one few in
     omega arith
+
+pub pair-room : {machines a b : ℕ} → AskPair machines a b → (a - 1) * machines + machines ≤ most-machines * most-machines
+pair-room ask = rows-room (ask .room) (let f = ask .first in omega arith)
 
 module _ {s : Setup} {table : List ℕ} (is : TableOf s table) where
   pub machine-figure : {m : ℕ} → AskMachine table m → getD table m 0 ≡ rate s m

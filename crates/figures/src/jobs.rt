@@ -3,6 +3,7 @@
 use texts::job::FIGURES;
 ghost use Rattle.figures.specs.Rows.{AskTaskFigure, AskRun, AskMessagesPlace, AskMessageFigure, JobNumberIs, SchedulingIs, TaskCountIs, DeadlineIs, DispatchIs, RunIs};
 ghost use Rattle.figures.specs.Rows.{MessagesAtIs, MessageCountIs, SenderIs, ReceiverIs, VolumeIs};
+ghost use Rattle.figures.specs.Layouts.{SomeRow, LayoutIs};
 
 pub fn number_of(row: &[u64; FIGURES]) -> u64
     ensures { λ r. ⌜ JobNumberIs (now (row .entry)) r ⌝ }
@@ -79,4 +80,26 @@ pub fn volume_of(row: &[u64; FIGURES], at: usize, i: usize) -> u64
     ensures { λ r. ⌜ VolumeIs (now (row .entry)) at i r ⌝ }
 {
     row[at + 1 + i * 3 + 2]
+}
+
+// Where the figures of a row stand: how many machines, tasks and messages it has, and the place of the count of messages.
+pub struct Layout {
+    pub machines: usize,
+    pub tasks: usize,
+    pub at: usize,
+    pub messages: usize,
+}
+
+pub fn layout_of(row: &[u64; FIGURES], machines: usize) -> Layout
+    requires { ⌜ SomeRow machines (now row) ⌝ }
+    ensures { λ r. ⌜ LayoutIs machines (now (row .entry)) r ⌝ }
+{
+    let tasks = task_count(row) as usize;
+    let at = messages_at(machines, tasks);
+    Layout {
+        machines: machines,
+        tasks: tasks,
+        at: at,
+        messages: message_count(row, at) as usize,
+    }
 }

@@ -1,3 +1,4 @@
 // Jobs and tables as rows of figures, lent: the functions here alone know the places.
 pub mod jobs;
+pub mod lending;
 pub mod tables;

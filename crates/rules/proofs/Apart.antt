@@ -64,7 +64,7 @@ module _ (s : Setup) (held : List Hold) (j : Job) (new : List Row) (m : ℕ) whe
       (λ c. rw (c, append-nil tried) (trials-apart tried msgs h))
 
 -- the rows of a turn are apart from all before them, and from each other
-turn-apart :
+pub turn-apart :
     (s : Setup) (g : Ground) (j : Job) (new : List Row) (t m : ℕ) → Pairwise Apart (g .held ++ holds new) →
     Pairwise Apart (g .held ++ holds (new ++ trial-rows (try s g j new t m)))
 unfolding try held-by

@@ -25,7 +25,7 @@ spans-append on a b =
     ∙ map-append (λ h. h .span) (keep (λ h. same (h .on) on) a) (keep (λ h. same (h .on) on) b)
 
 -- a span of a resource is that of a hold
-span-held : (on : Resource) (held : List Hold) {s : Span} → List·Memᴰ s (spans-on on held) → (h : Hold) × List·Memᴰ h held × (s ≡ h .span)
+pub span-held : (on : Resource) (held : List Hold) {s : Span} → List·Memᴰ s (spans-on on held) → (h : Hold) × List·Memᴰ h held × (s ≡ h .span)
 unfolding spans-on
 span-held on held m =
     let made = map-mem (λ h. h .span) (keep (λ h. same (h .on) on) held) m in

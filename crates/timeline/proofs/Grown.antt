@@ -11,18 +11,14 @@ use Rattle.rules.specs.declared.Row.{Row}
 use Rattle.rules.specs.Words.{Hold, hold-of, holds}
 use Rattle.rules.specs.Placing.{no-row, spans-on, least-free}
 use Rattle.rules.specs.Codes.{resource-number}
-use Rattle.rules.specs.Laws.{TakenOn}
 use Rattle.rules.proofs.Sequences.{by-less, mem-getD, getD-mem, mem-map, map-mem}
 use Rattle.rules.proofs.LeastTick.{least-is-least}
 use Rattle.rules.proofs.Resources.{spans-taken}
 use Rattle.timeline.specs.Timeline.{begin-of, end-of, Drawable, StandsAt, Drawn, FirstAfter}
-use Rattle.timeline.specs.Kept.{TimelineOf, InsertedAt}
+use Rattle.timeline.specs.Kept.{TimelineOf, InsertedAt, AskInsert}
+use Rattle.timeline.specs.Grown.{Untaken, AskSpan, SpanPut, StretchPut}
 use Rattle.timeline.proofs.Drawing.{known-same}
 use Rattle.timeline.proofs.Inserted.{by-place, PutAt, put-at}
-
--- no tick of the hold's span is taken on its resource
-abbrev pub Untaken : List Hold → Hold → Type 0
-Untaken held h = (x : ℕ) → h .span .start ≤ x → x < h .span .finish → TakenOn (h .on) held x → ⊥
 
 -- what a search finds on the hold's resource
 pub untaken-least :
@@ -252,3 +248,49 @@ timeline-more {rows} {begins} {ends} {places} {begins′} {ends′} {places′} 
           (λ most. (at, omega arith, omega (arith, p .here)));
       ascends = λ i below. ascends-more h b e (timeline-drawn line) takes free first i (omega (arith, length-map rows hold-of));
     }
+
+-- What the two functions leave.
+
+module _
+    {begins ends begins′ ends′ : List ℕ} {count begin end at : ℕ}
+    (ask : AskSpan begins ends count) (first : FirstAfter ends count begin at)
+    (b : InsertedAt begins count at begin begins′) (e : InsertedAt ends count at end ends′) where
+  pub insert-asked : {column : List ℕ} → count < length column → AskInsert column count at
+  insert-asked room = record { room = room; within = first .at-most }
+
+  pub span-put : SpanPut begins ends count begin end begins′ ends′
+  span-put = record {
+    begins-long = b .long;
+    ends-long = e .long;
+    is =
+        λ held h drawn begin-is end-is takes free.
+        drawn-more h drawn takes free (rw begin-is at first) (rw begin-is at b) (rw end-is at e) (ask .begins-room) (ask .ends-room);
+  }
+
+  pub stretch-put :
+      {places places′ : List ℕ} → count < length places → InsertedAt places count at count places′ →
+      StretchPut begins ends places count begin end begins′ ends′ places′
+  stretch-put {places} {places′} room p =
+      record {
+        begins-long = b .long;
+        ends-long = e .long;
+        places-long = p .long;
+        begins-past = put-at begins count at begin (insert-asked (ask .begins-room)) b .beyond;
+        ends-past = put-at ends count at end (insert-asked (ask .ends-room)) e .beyond;
+        places-past = put-at places count at count (insert-asked room) p .beyond;
+        is =
+            λ rows row long line begin-is end-is takes free.
+            let same = sym long in
+            timeline-more
+            row
+            line
+            takes
+            free
+            (rw (begin-is, same) at first)
+            (rw (begin-is, same) at b)
+            (rw (end-is, same) at e)
+            (rw same at p)
+            (let r = ask .begins-room in omega arith)
+            (let r = ask .ends-room in omega arith)
+            (omega arith);
+      }

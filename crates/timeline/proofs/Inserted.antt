@@ -24,6 +24,7 @@ pub record PutAt (old : List ℕ) (count at value : ℕ) (new : List ℕ) : Type
   pub before : (k : ℕ) → k < at → getD new k 0 ≡ getD old k 0
   pub here : getD new at 0 ≡ value
   pub after : (k : ℕ) → at ≤ k → k < count → getD new (k + 1) 0 ≡ getD old k 0
+  pub beyond : (k : ℕ) → count < k → getD new k 0 ≡ getD old k 0
 
 module _ (old : List ℕ) (count at value : ℕ) (asked : AskInsert old count at) where
   abbrev tail : List ℕ
@@ -77,6 +78,7 @@ module _ (old : List ℕ) (count at value : ℕ) (asked : AskInsert old count at
     before = λ k h. ap (λ l. getD l k 0) (is .new-is) ∙ whole-before k h;
     here = ap (λ l. getD l at 0) (is .new-is) ∙ whole-here;
     after = λ k low high. ap (λ l. getD l (k + 1) 0) (is .new-is) ∙ whole-after k low high;
+    beyond = λ k h. ap (λ l. getD l k 0) (is .new-is) ∙ whole-beyond k h;
   }
 
 -- Making room: those from i on stand one place further, and at i is what may be written over.

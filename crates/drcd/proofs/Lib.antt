@@ -1,0 +1,17 @@
+-- Laws that the functions' proofs cite.
+pub mod JobFigures
+pub mod Foremost
+pub mod Waiting
+pub mod NextTask
+pub mod Gathered
+pub mod Sending
+pub mod Trying
+pub mod TriedRows
+pub mod Attempts
+pub mod Chosen
+pub mod Floors
+pub mod Booked
+pub mod Pushing
+pub mod Appending
+pub mod Placed
+pub mod Turning

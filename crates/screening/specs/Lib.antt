@@ -1,0 +1,2 @@
+-- What the contracts of screening cite.
+pub mod Screens

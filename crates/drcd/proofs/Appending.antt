@@ -25,7 +25,7 @@ use Rattle.rules.proofs.Inputs.{try-shape}
 use Rattle.rules.proofs.Order.{in-range-volume}
 use Rattle.rules.proofs.Bounds.{listed-in-range, task-figures}
 use Rattle.timeline.specs.Timeline.{Known, known-machine, known-link, Drawable}
-use Rattle.timeline.specs.Kept.{TimelineOf}
+use Rattle.timeline.specs.RowLine.{TimelineOf}
 use Rattle.timeline.specs.Grown.{Untaken}
 use Rattle.drcd.specs.declared.TaskTurn.{TaskTurn}
 use Rattle.drcd.specs.declared.inputs.Input.{Input}

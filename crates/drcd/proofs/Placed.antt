@@ -35,7 +35,7 @@ use Rattle.rules.proofs.Bounds.{listed-machine, InBounds, turn-in-bounds, task-
 use Rattle.rules.proofs.Counted.{due-length}
 use Rattle.rules.proofs.Apart.{AllApart, turn-apart, shares-none-apart, apart-shares-none}
 use Rattle.rules.proofs.Resources.{holds-append}
-use Rattle.timeline.specs.Kept.{TimelineOf}
+use Rattle.timeline.specs.RowLine.{TimelineOf}
 use Rattle.timeline.proofs.Grown.{timeline-drawn}
 use Rattle.drcd.specs.declared.TaskTurn.{TaskTurn}
 use Rattle.drcd.specs.declared.choice.Kept.{Kept}

@@ -155,7 +155,7 @@ module _ {table row : List ℕ} {base : ℕ} {begins₀ ends₀ places₀ : List
           pub used-room : held + own .count < 2 ^ 64
           used-room = let few = asked .placeable .held-few in let own-few = witness .count-at-most in omega arith
 
-          module _ {number : ℕ} (numbered : JobNumberIs row number) {inputs′ : List ℕ} {count : ℕ}
+          module _ {number : ℕ} (number-read : JobNumberIs row number) {inputs′ : List ℕ} {count : ℕ}
               (gathered : GatheredIs row layout i machines finishes inputs′ count) where
             abbrev its-turn : TaskTurn
             its-turn = record { job = number; t = i; release = release + dispatch; held = held; used = held + own .count; inputs = count }
@@ -213,7 +213,7 @@ module _ {table row : List ℕ} {base : ℕ} {begins₀ ends₀ places₀ : List
                     keeping s j rows ask (now .so-far s j rows ask) i (is-next s j rows ask) inputs′ its-turn refl (more-of ask)
                     (ap (λ d. release + d) (dispatch-is s j rows ask)) refl (inputs-of s j rows ask) kept
                     (kept-of s j rows ask .one-found e .0) (kept-of s j rows ask .one-found e .1)
-                    (numbered _ j (ask .lent .row-is)) refl
+                    (number-read _ j (ask .lent .row-is)) refl
 
                 pub append-asked : AskAppend own kept table inputs′ begins ends places its-turn
                 append-asked = record {
@@ -254,5 +254,5 @@ module _ {table row : List ℕ} {base : ℕ} {begins₀ ends₀ places₀ : List
                           so-far-more s j rows ask (now .so-far s j rows ask) i (is-next s j rows ask) inputs′ its-turn refl (more-of ask)
                           (ap (λ d. release + d) (dispatch-is s j rows ask)) refl (inputs-of s j rows ask) kept
                           (kept-of s j rows ask .one-found e .0) (kept-of s j rows ask .one-found e .1)
-                          (numbered _ j (ask .lent .row-is)) refl appended;
+                          (number-read _ j (ask .lent .row-is)) refl appended;
                     }

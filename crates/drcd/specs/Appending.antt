@@ -11,7 +11,7 @@ use Rattle.rules.specs.Placing.{on-rows, trial-rows, try}
 use Rattle.rules.specs.Bounds.{Between, RowInRange, largest-cost}
 use Rattle.rules.specs.Demands.{NoSharedTick}
 use Rattle.timeline.specs.Timeline.{Drawable}
-use Rattle.timeline.specs.Kept.{TimelineOf}
+use Rattle.timeline.specs.RowLine.{TimelineOf}
 use Rattle.timeline.specs.Grown.{Untaken}
 use Rattle.drcd.specs.declared.TaskTurn.{TaskTurn}
 use Rattle.drcd.specs.declared.choice.Kept.{Kept}

@@ -10,7 +10,7 @@ use Rattle.rules.specs.Words.{horizon, largest-time, row-limit}
 use Rattle.rules.specs.Placing.{no-row, costs, Placing, booked, late, place, on-rows}
 use Rattle.rules.specs.Bounds.{Sound, RowInRange}
 use Rattle.rules.specs.Demands.{InRange, NoSharedTick}
-use Rattle.timeline.specs.Kept.{TimelineOf}
+use Rattle.timeline.specs.RowLine.{TimelineOf}
 use Rattle.figures.specs.Rows.{RowOf}
 use Rattle.figures.specs.Tables.{TableOf}
 use Rattle.drcd.specs.declared.place.Placement.{Placement}

@@ -9,7 +9,7 @@ use Rattle.rules.specs.Words.{hold-of}
 use Rattle.rules.specs.Placing.{no-row}
 use Rattle.rules.proofs.Sequences.{by-less}
 use Rattle.timeline.specs.Timeline.{begin-of, end-of}
-use Rattle.timeline.specs.Kept.{TimelineOf}
+use Rattle.timeline.specs.RowLine.{TimelineOf}
 use Rattle.timeline.proofs.Drawing.{lasts-at, follows, begins-ascend}
 use Rattle.timeline.proofs.Grown.{timeline-drawn}
 

@@ -12,7 +12,7 @@ use Rattle.rules.specs.declared.Row.{Row}
 use Rattle.rules.specs.Sequences.{keep, cons-if, count-of, numbers}
 use Rattle.rules.specs.Placing.{no-row}
 use Rattle.rules.proofs.Sequences.{by-test, keep-mem, keep-append, count-append, count-some, any-mem, numbers-more, length-numbers}
-use Rattle.timeline.specs.Kept.{stay-count, Says}
+use Rattle.timeline.specs.RowLine.{stay-count, Says}
 
 pub numbers-next : (n : ℕ) → numbers 0 (suc n) ≡ numbers 0 n ++ (n ∷ [])
 numbers-next n = let same : 0 + n ≡ n = omega arith in rw same at (numbers-more 0 n)

@@ -15,7 +15,7 @@ use Rattle.rules.proofs.Sequences.{by-less, mem-getD, getD-mem, mem-map, map-me
 use Rattle.rules.proofs.LeastTick.{least-is-least}
 use Rattle.rules.proofs.Resources.{spans-taken}
 use Rattle.timeline.specs.Timeline.{begin-of, end-of, Drawable, StandsAt, Drawn, FirstAfter}
-use Rattle.timeline.specs.Kept.{TimelineOf, InsertedAt, AskInsert}
+use Rattle.timeline.specs.RowLine.{TimelineOf, InsertedAt, AskInsert}
 use Rattle.timeline.specs.Grown.{Untaken, AskSpan, SpanPut, StretchPut}
 use Rattle.timeline.proofs.Drawing.{known-same}
 use Rattle.timeline.proofs.Inserted.{by-place, PutAt, put-at}

@@ -6,7 +6,7 @@ use native.Mathlib.Omega.{arith}
 use lib.ListN.{length, getD, take, drop, set, length-drop, length-append, length-set, List·getD-append}
 use lib.Seq.{length-take-le, getD-take, getD-drop, getD-at, getD-append-add, getD-set-same, getD-set-other, ext-getD}
 use Rattle.rules.proofs.Sequences.{by-less}
-use Rattle.timeline.specs.Kept.{AskInsert, InsertedAt}
+use Rattle.timeline.specs.RowLine.{AskInsert, InsertedAt}
 
 -- an index of so many and one is before the place of the value, or it is that place, or it is one further than an index from there on
 pub by-place :

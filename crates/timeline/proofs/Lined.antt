@@ -14,7 +14,7 @@ use Rattle.rules.specs.Words.{hold-of}
 use Rattle.rules.specs.Placing.{no-row}
 use Rattle.rules.proofs.Sequences.{by-less, mem-getD, getD-mem}
 use Rattle.timeline.specs.Timeline.{begin-of, end-of}
-use Rattle.timeline.specs.Kept.{TimelineOf, Stretch, insert-stretch, stretch-of, line-from, line-of}
+use Rattle.timeline.specs.RowLine.{TimelineOf, Stretch, insert-stretch, stretch-of, line-from, line-of}
 use Rattle.timeline.proofs.Drawing.{follows, begins-ascend}
 use Rattle.timeline.proofs.Grown.{timeline-drawn}
 use Rattle.timeline.proofs.Agreed.{begin-at, end-at, one-index, timeline-unique}

@@ -10,7 +10,7 @@ use lib.Seq.{take-suc-set, getD-set-same, getD-set-other}
 use borrow.Author.Tests.{not-true, not-false}
 use Rattle.rules.specs.Sequences.{keep, cons-if, numbers}
 use Rattle.rules.proofs.Sequences.{by-less, keep-append, length-keep, length-numbers}
-use Rattle.timeline.specs.Kept.{stay-count, PlacesLeft, AskPlacesLeft}
+use Rattle.timeline.specs.RowLine.{stay-count, PlacesLeft, AskPlacesLeft}
 use Rattle.timeline.proofs.Counted.{numbers-next, stay-none, stay-step, stay-at-most}
 
 -- The first k places are noted, and so many stay before the next.

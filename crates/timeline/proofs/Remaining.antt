@@ -10,7 +10,7 @@ use Rattle.rules.specs.declared.Row.{Row}
 use Rattle.rules.specs.Sequences.{keep, count-of, numbers}
 use Rattle.rules.specs.Placing.{no-row}
 use Rattle.rules.proofs.Sequences.{keep-mem, mem-keep, getD-mem, mem-getD, mem-numbers, numbers-mem, length-numbers, length-keep}
-use Rattle.timeline.specs.Kept.{TimelineOf, stay-count, Says, AskRemove, Removed}
+use Rattle.timeline.specs.RowLine.{TimelineOf, stay-count, Says, AskRemove, Removed}
 use Rattle.timeline.proofs.Drawing.{follows}
 use Rattle.timeline.proofs.Grown.{timeline-drawn}
 use Rattle.timeline.proofs.Counted.{keep-at, keep-room, keep-from, covers-all, stay-numbers, stay-rows}

@@ -7,7 +7,7 @@ use Rattle.rules.specs.declared.Row.{Row}
 use Rattle.rules.specs.Words.{Hold, hold-of, holds}
 use Rattle.rules.specs.Laws.{TakenOn}
 use Rattle.timeline.specs.Timeline.{begin-of, end-of, Drawable, Drawn, AskFirst}
-use Rattle.timeline.specs.Kept.{TimelineOf}
+use Rattle.timeline.specs.RowLine.{TimelineOf}
 
 -- no tick of the hold's span is taken on its resource
 abbrev pub Untaken : List Hold → Hold → Type 0

@@ -1,5 +1,5 @@
 -- What the timeline's contracts cite.
 pub mod Timeline
-pub mod Kept
+pub mod RowLine
 pub mod Grown
 pub mod Beside

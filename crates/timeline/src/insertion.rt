@@ -1,6 +1,6 @@
 // A value put into an ascending column at its index, and a span put on the timeline.
 use crate::search::first_after;
-ghost use Rattle.timeline.specs.Kept.{AskInsert, InsertedAt};
+ghost use Rattle.timeline.specs.RowLine.{AskInsert, InsertedAt};
 ghost use Rattle.timeline.specs.Grown.{AskSpan, SpanPut, AskStretch, StretchPut};
 
 // Puts a value at an index of the first so many, and those from there on one place further.

@@ -1,5 +1,5 @@
 // The timeline without the rows that leave: the others keep their order, and their places are those that they have then.
-ghost use Rattle.timeline.specs.Kept.{AskPlacesLeft, PlacesLeft, AskRemove, Removed};
+ghost use Rattle.timeline.specs.RowLine.{AskPlacesLeft, PlacesLeft, AskRemove, Removed};
 
 // For each place how many rows before it stay: its place when the others are gone.
 pub fn places_left(leaves: &[bool], count: usize, left: &mut [u16])

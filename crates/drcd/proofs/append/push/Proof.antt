@@ -7,8 +7,8 @@ use Rattle.drcd.proofs.append.push.Tie as tie
 
 -- The stops that the proof goes back to.
 
-abbrev numbered : tie.After-struct-known2 → tie.After-holder-number
-numbered c = c .before .before .before .before .before
+abbrev coded : tie.After-struct-known2 → tie.After-holder-number
+coded c = c .before .before .before .before .before
 
 abbrev put : tie.After-struct-known4 → tie.After-insert-stretch
 put c = c .before .before .before .before .before .before .before .before .before
@@ -30,17 +30,17 @@ add-insert-stretch-2 c =
 
 add-insert-stretch-3 : tie.Need-add-insert-stretch-3
 add-insert-stretch-3 c =
-    let at = numbered c in
+    let at = coded c in
     let below = push-code-below (start at .pre) in
     omega (arith, at .holder-number .ensures, start at .pre .drawable)
 
 insert-stretch-requires : tie.Need-insert-stretch-requires
-insert-stretch-requires c κs = push-asks (start (numbered c) .pre)
+insert-stretch-requires c κs = push-asks (start (coded c) .pre)
 
 returns : tie.Need-returns
 returns c =
     let at = put c in
-    let by = numbered (at .before) in
+    let by = coded (at .before) in
     pushed-row (start by .pre) (by .holder-number .ensures) (at .insert-stretch .ensures)
 
 pub push-spec : {M : Type 1} → statement M

@@ -1,12 +1,17 @@
-//! The reader of a job text: lines of a key, `=`, a number and a line feed.
+//! The reader and the writer of a job text: lines of a key, `=`, a number and a
+//! line feed.
 
 use crate::job::{Job, Message, Task, MAX_MESSAGES, MAX_TASKS};
+use crate::listing::field;
 
 const MAX_DIGITS: usize = 10;
+const MAX_FIGURE: u64 = 9_999_999_999;
 
 const BAD_KEY: u8 = 14;
 const BAD_FIGURE: u8 = 15;
 const BAD_COUNT: u8 = 16;
+const UNWRITABLE: u8 = 20;
+const NO_ROOM: u8 = 21;
 
 /// Why a text could not be read, and the place of the refused line's first
 /// byte in the text handed over.
@@ -54,6 +59,40 @@ pub fn read_job(text: &[u8]) -> Result<(Job, usize), Refusal> {
         };
     }
     Ok((job, lines.place))
+}
+
+/// Writes a job's text from the buffer's start on and answers its length; later
+/// bytes stay. A refusal, its number the error, writes nothing.
+pub fn write_job(job: &Job, buffer: &mut [u8]) -> Result<usize, u8> {
+    if !(1..=MAX_TASKS).contains(&job.task_count) || job.message_count > MAX_MESSAGES {
+        return Err(UNWRITABLE);
+    }
+    let mut text = Vec::new();
+    let mut fits = true;
+    let mut line = |key, figure| {
+        fits &= figure <= MAX_FIGURE;
+        field(&mut text, key, figure);
+    };
+    line("job", job.number);
+    line("sched", job.sched);
+    line("tasks", job.task_count as u64);
+    for task in job.tasks() {
+        line("deadline", task.deadline);
+        line("dispatch", task.dispatch);
+        task.run.iter().for_each(|&run| line("run", run));
+    }
+    line("messages", job.message_count as u64);
+    for message in job.messages() {
+        line("from", message.from);
+        line("to", message.to);
+        line("volume", message.volume);
+    }
+    if !fits {
+        return Err(UNWRITABLE);
+    }
+    let room = buffer.get_mut(..text.len()).ok_or(NO_ROOM)?;
+    room.copy_from_slice(&text);
+    Ok(text.len())
 }
 
 struct Lines<'a> {
@@ -135,6 +174,31 @@ mod tests {
             (job.task[0].deadline, job.task[0].dispatch, job.task[0].run),
             (10, 1, [4, 5, 0, 2])
         );
+    }
+
+    #[test]
+    fn a_text_written() {
+        let (mut job, _) = read_job(TEXT).unwrap();
+        for room in [0, TEXT.len() - 1, TEXT.len(), TEXT.len() + 1] {
+            let mut buffer = vec![255; room];
+            let due = if room < TEXT.len() {
+                Err(21)
+            } else {
+                Ok(TEXT.len())
+            };
+            assert_eq!(write_job(&job, &mut buffer), due);
+            let (text, rest) = buffer.split_at(due.unwrap_or(0));
+            assert!(text.is_empty() || text == TEXT);
+            assert!(rest.iter().all(|&byte| byte == 255));
+        }
+        job.sched = MAX_FIGURE + 1;
+        assert_eq!(write_job(&job, &mut []), Err(20));
+        job.sched = MAX_FIGURE;
+        assert_eq!(write_job(&job, &mut []), Err(21));
+        for count in [0, MAX_TASKS + 1, usize::MAX] {
+            job.task_count = count;
+            assert_eq!(write_job(&job, &mut []), Err(20));
+        }
     }
 
     #[test]

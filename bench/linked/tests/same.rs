@@ -2,10 +2,13 @@
 //! the cases, the examples, damaged versions of both and the ends of the range
 //! of lengths.
 
+mod common;
+
 use std::collections::BTreeMap;
 use std::fs;
 use std::path::{Path, PathBuf};
 
+use common::{setting, Dice};
 use linked::{register_run, OUTPUT};
 
 /// How many damaged scripts are tried; the environment may say another count.
@@ -153,18 +156,7 @@ fn lengths() {
     }
 }
 
-/// Splitmix64.
-struct Dice(u64);
-
 impl Dice {
-    fn below(&mut self, bound: usize) -> usize {
-        self.0 = self.0.wrapping_add(0x9e37_79b9_7f4a_7c15);
-        let mut z = self.0;
-        z = (z ^ (z >> 30)).wrapping_mul(0xbf58_476d_1ce4_e5b9);
-        z = (z ^ (z >> 27)).wrapping_mul(0x94d0_49bb_1331_11eb);
-        ((z ^ (z >> 31)) % bound as u64) as usize
-    }
-
     /// A stretch of whole lines, from a place on and up to another.
     fn stretch(&mut self, script: &[u8]) -> (usize, usize) {
         let mut starts = vec![0];
@@ -223,8 +215,8 @@ impl Dice {
 
 #[test]
 fn damaged_scripts() {
-    let count = std::env::var("MUTATIONS").map_or(MUTATIONS, |count| count.parse().unwrap());
-    let seed = std::env::var("SEED").map_or(SEED, |seed| seed.parse().unwrap());
+    let count = setting("MUTATIONS", MUTATIONS);
+    let seed = setting("SEED", SEED);
     let all: Vec<Vec<u8>> = cases()
         .into_iter()
         .chain(examples())

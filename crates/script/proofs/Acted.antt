@@ -16,11 +16,11 @@ use Rattle.lines.specs.Lines.{Parsed, parsed, refused, Due, any-figure, begins,
 use Rattle.texts.specs.Forms.{read}
 use Rattle.texts.specs.JobText.{job-form, as-job, job-text}
 use Rattle.lines.specs.Readings.{reading-number, reading-said, ReadingIs}
-use Rattle.texts.specs.Reader.{with-count, job-or-blank, Reads}
+use Rattle.texts.specs.Reader.{with-count, Reads}
 use Rattle.lines.proofs.Begun.{key-fits}
 use Rattle.lines.proofs.Lined.{part}
 use Rattle.texts.proofs.Reading.{said-read, said-refused}
-use Rattle.texts.proofs.Reached.{line-reached, job-reached}
+use Rattle.texts.proofs.Reached.{line-reached, job-reached, reads-parsed}
 use Rattle.script.specs.declared.acts.ActRead.the-variants.{Called}
 use Rattle.script.specs.declared.acts.NextAct.{NextAct}
 use Rattle.script.specs.Keys.{job-key, tick-key}
@@ -64,14 +64,7 @@ module _ (machines : ℕ) (text : List ℕ) (from : ℕ) (r : JobRead) (lent-rea
   reads = subst (λ t. Reads machines t r) (part text from) lent-reads
 
   job-parsed : (n next : ℕ) → r .reading ≡ Read n next → job-text machines (drop from text) ≡ parsed (r .job) next
-  unfolding job-text
-  job-parsed n next e = go (read (job-form machines) (drop from text) 0) (reads .reading-is .answer-is) (reads .job-is)
-    where
-      go :
-          (p : Parsed (List ℕ)) → r .reading ≡ reading-said (with-count p) → r .job ≡ job-or-blank (as-job machines p) →
-          as-job machines p ≡ parsed (r .job) next
-      go (parsed ns last) q j = let same : Read n next ≡ Read (length ns) last = sym e ∙ q in let to : next ≡ last = cc in rw (to, j) refl
-      go (refused number place) q j = absurd (let o : Read n next ≡ Refused number place = sym e ∙ q in let z : _≡_ {A = ℕ} 0 1 = cc in omega arith)
+  job-parsed n next e = reads-parsed machines (drop from text) r reads e
 
   pub job-read : (n next : ℕ) → r .reading ≡ Read n next → call (submits (r .job)) (from + next) ≡ as-act submits from (job-text machines (drop from text))
   job-read n next e = rw (job-parsed n next e) refl

@@ -1,4 +1,4 @@
--- A reader must believe this: what the offered `run`, and `register_run`, do with an input and a buffer. Document 01, "The program `register`".
+-- A reader must believe this: what the offered `run`, and `register_run` of `exports`, do with an input and a buffer. Document 01, "The program `register`".
 use mathlib.Core.Path.{_≡_}
 use mathlib.Core.List.{List}
 use Prim.Native.Nat.{ℕ, _≤_}

@@ -75,11 +75,3 @@ pub fn run(input: &[u8], output: &mut [u8; OUTPUT]) -> usize
     }
     run_calls(input, output)
 }
-
-// The same for programs in other languages: the input as a pointer and a length, the output as a pointer to `OUTPUT` bytes.
-#[no_mangle]
-pub extern "C" fn register_run(input: &[u8], output: &mut [u8; OUTPUT]) -> usize
-    ensures { λ r. ⌜ Runs (now (input .entry)) (now (output .entry)) (now (output .exit)) r ⌝ }
-{
-    run(input, output)
-}

@@ -10,7 +10,7 @@ use Rattle.rules.specs.Words.{no-task, most-tasks, most-messages}
 use Rattle.texts.specs.JobText.{groups, filled, task-said, message-said, blank-task, blank-message, job-said}
 use Rattle.texts.specs.JobText.{head-size, task-size, message-size, messages-at}
 use Rattle.texts.specs.Laws.{Task-stands, Message-stands}
-use Rattle.texts.proofs.JobLaws.{groups-length}
+use Rattle.texts.proofs.Groups.{groups-length}
 
 groups-at :
     {A : Type 0} (said : List ℕ → A) (size n : ℕ) (figures : List ℕ) (i : ℕ) (none : A) → i < n →

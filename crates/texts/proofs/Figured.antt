@@ -24,7 +24,9 @@ use Rattle.texts.specs.Rows.{most-figures, CountsInRange}
 use Rattle.texts.proofs.FormLaws.{read-is-written}
 use Rattle.texts.proofs.Staged.{at-most-more}
 use Rattle.texts.proofs.JobForm.{job-form-at-most}
-use Rattle.texts.proofs.JobLaws.{filled-parts, groups-length, said, row-said, parts-said}
+use Rattle.texts.proofs.JobParts.{filled-parts}
+use Rattle.texts.proofs.Groups.{groups-length}
+use Rattle.texts.proofs.JobLaws.{said, row-said, parts-said}
 
 -- the figures of tasks leave room for those of the messages
 pub tasks-within : {machines n : ℕ} → machines ≤ most-machines → n ≤ most-tasks → n * task-size machines ≤ most-tasks * task-size most-machines

@@ -1,5 +1,5 @@
 -- The figures of a job, laid into a row: one by one, and entry by entry.
-use mathlib.Core.Path.{_≡_, refl, sym, ap, _∙_}
+use mathlib.Core.Path.{_≡_, refl, sym, ap, _∙_, subst}
 use mathlib.Core.List.{List, [], _∷_, _++_, map, append-assoc, append-nil}
 use Prim.Native.Nat.{ℕ, zero, suc, _+_, _*_, _≤_, _<_}
 use native.Mathlib.Nat.{suc-mul, mul-le-mul-right}
@@ -10,10 +10,15 @@ use lib.Seq.{length-take-le}
 use Rattle.rules.specs.declared.Job.{Job}
 use Rattle.rules.specs.declared.Task.{Task}
 use Rattle.rules.specs.Sequences.{joined}
+use Rattle.rules.proofs.Sequences.{by-less}
 use Rattle.texts.specs.JobText.{head-size, task-size, task-figures, job-figures}
 use Rattle.lines.specs.Put.{Puts}
 use Rattle.texts.specs.Rows.{sent-figures}
 use Rattle.lines.proofs.Put.{puts-long, puts-then, put-none, put-byte, Copied, copied-all}
+
+-- what holds below a number and of it holds below the next
+pub one-more : (P : ℕ → Type 0) {n : ℕ} → ((i : ℕ) → i < n → P i) → P n → (i : ℕ) → i < n + 1 → P i
+one-more P {n} below here i h = by-less i n (below i) (λ l. let same : n ≡ i = omega arith in subst P same here)
 
 -- the figures of one entry more
 joined-next :

@@ -1,5 +1,5 @@
 -- How many bytes a form takes at the least: what was read lies within the text, and reaches so far.
-use mathlib.Core.Path.{_≡_, refl, ap}
+use mathlib.Core.Path.{_≡_, refl, sym, ap, _∙_}
 use mathlib.Core.Bool.{true}
 use mathlib.Core.List.{List}
 use Prim.Native.Nat.{ℕ, zero, suc, _+_, _≤_}
@@ -7,11 +7,15 @@ use native.Mathlib.Omega.{arith}
 use lib.ListN.{length, drop, length-append, length-drop}
 use Rattle.rules.specs.declared.Job.{Job}
 use Rattle.rules.specs.Words.{most-tasks}
+use Rattle.lines.specs.declared.line.Reading.the-variants.{Read, Refused}
 use Rattle.lines.specs.Figures.{bytes, field}
 use Rattle.lines.specs.Lines.{Parsed, parsed, refused, Due, line}
+use Rattle.lines.specs.Readings.{reading-said}
+use Rattle.texts.specs.declared.job.JobRead.{JobRead}
 use Rattle.texts.specs.Forms.{Form, done, ask, read}
 use Rattle.lines.specs.Lines.{takes}
 use Rattle.texts.specs.JobText.{tasks-lines, sent-lines, job-form, as-job, job-text}
+use Rattle.texts.specs.Reader.{with-count, job-or-blank, Reads}
 use Rattle.lines.proofs.Decimals.{decimal-some}
 use Rattle.texts.proofs.FormLaws.{onto-parsed, read-cases}
 use Rattle.texts.proofs.JobForm.{taken-between}
@@ -106,3 +110,20 @@ job-reached machines text job next e = go (read (job-form machines) text 0) refl
     go : (p : Parsed (List ℕ)) → read (job-form machines) text 0 ≡ p → as-job machines p ≡ parsed job next → Reached text 0 least-job next
     go (parsed ns last) q f = let same : last ≡ next = cc in form-reached text 0 (job-at-least machines) (omega arith) (rw same at q)
     go (refused number place) q f = absurd (let z : _≡_ {A = ℕ} 0 1 = cc in omega arith)
+
+-- what a reading answers that found a job
+pub reads-parsed :
+    (machines : ℕ) (text : List ℕ) (r : JobRead) → Reads machines text r → {n next : ℕ} → r .reading ≡ Read n next →
+    job-text machines text ≡ parsed (r .job) next
+unfolding job-text
+reads-parsed machines text r reads {n} {next} e = go (read (job-form machines) text 0) (reads .reading-is .answer-is) (reads .job-is)
+  where
+    go :
+        (p : Parsed (List ℕ)) → r .reading ≡ reading-said (with-count p) → r .job ≡ job-or-blank (as-job machines p) →
+        as-job machines p ≡ parsed (r .job) next
+    go (parsed ns last) q j = let same : Read n next ≡ Read (length ns) last = sym e ∙ q in let to : next ≡ last = cc in rw (to, j) refl
+    go (refused number place) q j = absurd (let o : Read n next ≡ Refused number place = sym e ∙ q in let z : _≡_ {A = ℕ} 0 1 = cc in omega arith)
+
+pub reads-reached :
+    (machines : ℕ) (text : List ℕ) (r : JobRead) → Reads machines text r → {n next : ℕ} → r .reading ≡ Read n next → Reached text 0 least-job next
+reads-reached machines text r reads e = job-reached machines text (r .job) _ (reads-parsed machines text r reads e)

@@ -1,9 +1,7 @@
 -- A reader must believe this: a text as a form, and how a form is read and written. Documents 01 and 02: every text is lines of a key and a figure.
-use mathlib.Core.Bool.{Bool, true, false, cond, _&&_}
+use mathlib.Core.Bool.{Bool, true, false, _&&_}
 use mathlib.Core.List.{List, [], _∷_, _++_}
 use Prim.Native.Nat.{ℕ}
-use lib.Dec.{leb}
-use lib.ListN.{length, drop}
 use Rattle.lines.specs.Figures.{field}
 use Rattle.lines.specs.Lines.{Parsed, parsed, refused, Due, line, takes}
 
@@ -28,11 +26,6 @@ unfoldable pub written : Form → List ℕ → List ℕ
 written done ns = []
 written (ask due more) [] = []
 written (ask due more) (n ∷ ns) = field (due .key) n ++ written (more n) ns
-
--- A buffer after such lines were written from its start on: every byte past them is as it was, and a buffer that is too short for them is left as it was.
-unfoldable pub written-into : Form → List ℕ → (buffer : List ℕ) → List ℕ
-written-into form ns buffer =
-    cond (leb (length (written form ns)) (length buffer)) (written form ns ++ drop (length (written form ns)) buffer) buffer
 
 -- a figure for each line of the form, and no other
 unfoldable pub fills : Form → List ℕ → Bool

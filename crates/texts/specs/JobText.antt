@@ -1,4 +1,5 @@
--- A reader must believe this: the form of a job, and the job that its figures say. Document 01, "Job text"; document 02, request 3, for any machine count.
+-- A reader must believe this: the form of a job, and the job that its figures say. Document 01, "Job text"; document 02,
+-- request 1, for what can be written, and request 3, for any machine count.
 use mathlib.Core.Bool.{Bool, _&&_}
 use mathlib.Core.List.{List, [], _∷_, _++_, map}
 use Prim.Native.Nat.{ℕ, zero, suc, _+_, _-_, _*_}
@@ -127,10 +128,11 @@ job-figures machines j =
     ++ (joined (map (task-figures machines) (take (j .taskcount) (j .tasks)))
     ++ (j .messagecount ∷ joined (map message-figures (take (j .messagecount) (j .messages)))))
 
--- a job whose counts are in range and whose listed figures have at most ten digits
+-- a figure of at most ten digits
 abbrev pub short : ℕ → Bool
 short n = leb n largest-figure
 
+-- a job whose counts are in range and whose listed figures are short
 abbrev pub writable : (machines : ℕ) → Job → Bool
 writable machines j =
     (leb 1 (j .taskcount) && leb (j .taskcount) most-tasks) && (leb (j .messagecount) most-messages && all-of short (job-figures machines j))

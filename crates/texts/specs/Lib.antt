@@ -3,6 +3,8 @@ pub mod Forms
 pub mod JobText
 pub mod Laws
 pub mod Reader
+pub mod Writer
 pub mod Stages
 pub mod Parts
 pub mod Rows
+pub mod Examples

@@ -5,12 +5,13 @@ use mathlib.Core.List.{List, _++_}
 use Prim.Native.Nat.{ℕ, suc, _≤_}
 use lib.ListN.{length, take, drop}
 use Rattle.texts.specs.declared.forms.Stage.{Stage}
+use Rattle.texts.specs.declared.forms.WriterAnswer.{WriterAnswer}
 use Rattle.texts.specs.declared.forms.Stage.the-variants.{Job as AtJob, Over}
 use Rattle.texts.specs.declared.job_lines.JobLine.{JobLine}
 use Rattle.lines.specs.declared.line.DueLine.{DueLine}
 use Rattle.lines.specs.declared.line.Reading.{Reading}
 use Rattle.lines.specs.Lines.{parsed, Due}
-use Rattle.texts.specs.Forms.{Form, done, ask, read, written, written-into, fills}
+use Rattle.texts.specs.Forms.{Form, done, ask, read, fills}
 use Rattle.lines.specs.Lines.{takes}
 use Rattle.lines.specs.Readings.{ReadingIs}
 use Rattle.texts.specs.Reader.{with-count}
@@ -76,6 +77,10 @@ pub record AskWalk (first : Stage) (machines : ℕ) (row : List ℕ) (count : �
   pub some-machine : 1 ≤ machines
   pub within : count ≤ length row
 
+-- a writer's whole answer in a refusal
+abbrev pub unwritten-answer : (number : ℕ) → WriterAnswer
+unwritten-answer number = record { number = number; length = 0 }
+
 -- rows that are written: their figures fill the form, and are few enough that the bytes can be counted
 abbrev pub most-written : ℕ
 most-written = 65_536
@@ -84,8 +89,3 @@ pub record AskWrite (first : Stage) (machines : ℕ) (row : List ℕ) (count : �
   pub walk : AskWalk first machines row count
   pub fills-it : fills (form-at machines first) (take count row) ≡ true
   pub few : count ≤ most-written
-
--- the lines stand in the buffer, or it was too short and is as it was; the answer is their length either way
-pub record FormWritten (form : Form) (ns old new : List ℕ) (r : ℕ) : Type 0 where
-  pub length-is : r ≡ length (written form ns)
-  pub bytes-are : new ≡ written-into form ns old

@@ -14,9 +14,10 @@ ghost use mathlib.Core.Path.{_≡_};
 ghost use Prim.Native.Nat.{_≤_};
 ghost use lib.ListN.{length, take};
 ghost use Rattle.texts.specs.Forms.{fills, written};
+ghost use Rattle.texts.specs.Writer.{Writes};
 ghost use Rattle.lines.specs.Put.{Puts};
 ghost use Rattle.texts.specs.Stages.{form-at, stage-over};
-ghost use Rattle.texts.specs.Parts.{DueIs, AskAfter, AfterIs, AskRead, FormRead, AskWalk, AskWrite, FormWritten};
+ghost use Rattle.texts.specs.Parts.{DueIs, AskAfter, AfterIs, AskRead, FormRead, AskWalk, AskWrite, unwritten-answer};
 
 pub enum Stage {
     Job(JobLine),
@@ -146,20 +147,38 @@ fn put_form(row: &[u64], count: usize, first: Stage, machines: u64, output: &mut
     at
 }
 
-// Writes those lines if the output has room for them, and leaves it as it was if not. Answers their length.
+// What a writer of texts answers: 0 and the length of the text, or the number of a refusal and 0.
+pub struct WriterAnswer {
+    pub number: u64,
+    pub length: usize,
+}
+
+pub fn unwritten(number: u64) -> WriterAnswer
+    ensures { λ r. ⌜ r ≡ unwritten-answer number ⌝ }
+{
+    WriterAnswer {
+        number: number,
+        length: 0,
+    }
+}
+
+// Writes those lines if the output has room for them. 21: it has not, and stays as it was.
 pub fn write_form(
     row: &[u64],
     count: usize,
     first: Stage,
     machines: u64,
     output: &mut [u8],
-) -> usize
+) -> WriterAnswer
     requires { ⌜ AskWrite first machines (now row) count ⌝ }
-    ensures { λ r. ⌜ FormWritten (form-at machines first) (take count (now (row .entry))) (now (output .entry)) (now (output .exit)) r ⌝ }
+    ensures { λ r. ⌜ Writes 0 (written (form-at machines first) (take count (now (row .entry)))) (now (output .entry)) (now (output .exit)) r ⌝ }
 {
     let length = form_length(row, count, first, machines);
-    if length <= output.len() {
-        return put_form(row, count, first, machines, output);
+    if output.len() < length {
+        return unwritten(21);
     }
-    length
+    WriterAnswer {
+        number: 0,
+        length: put_form(row, count, first, machines, output),
+    }
 }

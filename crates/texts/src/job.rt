@@ -14,10 +14,11 @@ ghost use Prim.Native.Nat.{_+_, _*_, _≤_};
 ghost use lib.ListN.{length, take, drop};
 ghost use Rattle.rules.specs.Words.{most-tasks, most-messages, most-machines};
 ghost use Rattle.texts.specs.JobText.{head-size, task-size, message-size, groups, filled, task-said, message-said, job-said};
-ghost use Rattle.texts.specs.JobText.{blank-task, blank-message, blank-job, task-figures, message-figures, job-figures};
+ghost use Rattle.texts.specs.JobText.{blank-task, blank-message, blank-job, message-figures};
 ghost use Rattle.texts.specs.Reader.{Reads, default-machines};
 ghost use Rattle.lines.specs.Put.{Puts};
-ghost use Rattle.texts.specs.Rows.{MachineCount, AskTask, AskTasks, AskMessage, AskMessages, CountsInRange, Countable, AskSent, sent-figures};
+ghost use Rattle.texts.specs.Rows.{MachineCount, AskTask, AskTasks, AskMessage, AskMessages, CountsInRange, Countable};
+ghost use Rattle.texts.specs.Rows.{TaskPut, JobPut, AskSent, sent-figures};
 
 // The figures that a job has at the most.
 pub const FIGURES: usize = 4 + TASKS * (2 + MACHINES) + MESSAGES * 3;
@@ -150,7 +151,7 @@ pub fn job_of(row: &[u64; FIGURES], machines: u64) -> Job
 // A task's figures, from a place on. Answers the place after them.
 fn put_task(row: &mut [u64], at: usize, machines: usize, task: Task) -> usize
     requires { ⌜ (at + task-size machines ≤ length (now row)) × (machines ≤ most-machines) ⌝ }
-    ensures { λ r. ⌜ Puts (now (row .entry)) at (task-figures machines task) (now (row .exit)) r ⌝ }
+    ensures { λ r. ⌜ TaskPut machines task (now (row .entry)) at (now (row .exit)) r ⌝ }
 {
     row[at] = task.deadline;
     row[at + 1] = task.dispatch;
@@ -176,7 +177,7 @@ fn put_message(row: &mut [u64], at: usize, message: Message) -> usize
 // The figures of a job whose counts are in range, from the row's start on. Answers how many they are.
 pub fn job_figures(row: &mut [u64; FIGURES], machines: u64, job: Job) -> usize
     requires { ⌜ Countable machines job (now row) ⌝ }
-    ensures { λ r. ⌜ Puts (now (row .entry)) 0 (job-figures machines job) (now (row .exit)) r ⌝ }
+    ensures { λ r. ⌜ JobPut machines job (now (row .entry)) (now (row .exit)) r ⌝ }
 {
     row[0] = job.number;
     row[1] = job.scheduling;

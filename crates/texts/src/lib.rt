@@ -2,3 +2,4 @@
 pub mod forms;
 pub mod job;
 pub mod job_lines;
+pub mod writer;

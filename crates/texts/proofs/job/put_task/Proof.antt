@@ -43,7 +43,8 @@ returns c =
     let s = c .before .before in
     let a = s .args in
     let all = runs-long s in
-    put-runs (a .row .now) (a .at) (a .machines) (a .t4) (s .pre .0) (omega arith) (c .loop-test .left) (c .before .loop .inv)
+    let puts = put-runs (a .row .now) (a .at) (a .machines) (a .t4) (s .pre .0) (omega arith) (c .loop-test .left) (c .before .loop .inv) in
+    record { puts = puts; runs-long = all }
 
 pub put-task-spec : {M : Type 1} → statement M
 put-task-spec =

@@ -11,14 +11,23 @@ Each goes to FOLDER/NAME.script; the same seed gives the same bytes.
     listing     256 rows from six jobs, on machines and links, and then the end
     worst       240 rows of one machine, each earlier than the last, and jobs of 16 tasks and 32 messages over them
     worst-link  120 rows of one link, each earlier than the last, and jobs of 16 tasks and 32 messages over them
+    zigzag      241 rows of one tick on one machine, neighbours in time at opposite ends of the register, and jobs of 16
+                tasks that pass them all and are refused 8
+    ended       128 jobs of which one row has ended and one has not, and clock moves
+    tiny        clock moves to the present tick
+    refill      a full register, of which each call withdraws a job or submits one
     first       examples/first.script
 """
 
 import pathlib
 import sys
 
-LIMIT = 65536
-SEED = 20050704
+ROOT = pathlib.Path(__file__).resolve().parent.parent
+sys.dont_write_bytecode = True
+sys.path.insert(0, str(ROOT / "tests" / "cases"))
+
+import scripts
+from scripts import LIMIT, SEED, clock, submit, task, withdraw
 
 
 class Dice:
@@ -44,39 +53,14 @@ class Dice:
         return things[self.below(len(things))]
 
 
-# Calls, as bytes.
-
-
-def lines(*fields):
-    return b"".join(f.encode() + b"\n" for part in fields for f in part.split())
-
-
-def task(deadline, dispatch, runs):
-    return f"deadline={deadline} dispatch={dispatch} " + " ".join(f"run={run}" for run in runs)
-
-
-def submit(job, tasks, messages=(), sched=0):
-    fields = [f"act=submit job={job} sched={sched} tasks={len(tasks)}", *tasks, f"messages={len(messages)}"]
-    fields += [f"from={a} to={b} volume={v}" for a, b, v in messages]
-    return lines(*fields)
-
-
-def withdraw(job):
-    return lines(f"act=withdraw job={job}")
-
-
-def clock(tick):
-    return lines(f"act=clock tick={tick}")
-
-
 def filled(script):
     """The script with refused calls at its end that bring it to the limit: withdrawals of job 0, and a submission of
     job 0 whose figures are as long as need be."""
     left = LIMIT - len(script)
-    least = submit(0, [task(1, 0, (0, 0, 0, 0))])
+    least = submit(0, [task(1, 0, 0, 0, 0, 0)])
     count, more = divmod(left - len(least), len(withdraw(0)))
     script += withdraw(0) * count
-    script += submit(0, [task("1" * (1 + more - more // 2), 0, (0, 0, 0, 0))], sched="1" * (1 + more // 2))
+    script += submit(0, [task("1" * (1 + more - more // 2), 0, 0, 0, 0, 0)], sched="1" * (1 + more // 2))
     assert len(script) == LIMIT
     return script
 
@@ -93,7 +77,7 @@ def runs_of(dice, most):
 
 
 def pairs_of(dice, tasks, share, volume):
-    return [(a, b, dice.between(0, volume)) for b in range(2, tasks + 1) for a in range(1, b) if dice.percent(share)]
+    return [(a, b, dice.between(0, volume)) for a, b in scripts.pairs(tasks) if dice.percent(share)]
 
 
 def mixed(dice):
@@ -103,7 +87,7 @@ def mixed(dice):
 
     def some_tasks(count):
         return [
-            task(now + dice.between(300, 900) + 150 * index, dice.between(0, 4), runs_of(dice, 25))
+            task(now + dice.between(300, 900) + 150 * index, dice.between(0, 4), *runs_of(dice, 25))
             for index in range(count)
         ]
 
@@ -120,15 +104,15 @@ def mixed(dice):
         if kind == 1:
             return submit(dice.pick((0, 65536, 9999999999)), one)
         if kind == 3:
-            return submit(fresh, [task(now + 500, 1000001, (4, 0, 0, 9))])
+            return submit(fresh, [task(now + 500, 1000001, 4, 0, 0, 9)])
         if kind == 4:
             return submit(fresh, some_tasks(3), dice.pick(([(1, 3, 2), (1, 2, 2)], [(2, 2, 1)], [(1, 4, 1)])))
         if kind == 5:
             return submit(max(1, number - dice.below(6)), one)
         if kind == 6:
-            return submit(fresh, one + [task(late, 0, (0, late - now + 1, 0, 0))])
+            return submit(fresh, one + [task(late, 0, 0, late - now + 1, 0, 0)])
         if kind == 7:
-            return submit(fresh, one + [task(late, 20, (0, 2, 0, 1))])
+            return submit(fresh, one + [task(late, 20, 0, 2, 0, 1)])
         if kind == 9:
             return withdraw(fresh)
         if kind == 11:
@@ -162,7 +146,7 @@ def dense(dice):
         number += 1
         window = dice.between(180, 420)
         count = dice.between(1, 2)
-        tasks = [task(window, dice.between(1, 9), runs_of(dice, 9)) for _ in range(count)]
+        tasks = [task(window, dice.between(1, 9), *runs_of(dice, 9)) for _ in range(count)]
         messages = [(1, 2, dice.between(0, 3))] if count == 2 and dice.percent(60) else []
         script += submit(number, tasks, messages, sched=dice.between(1, 9))
         held.append(number)
@@ -176,7 +160,7 @@ def listing(dice):
         for index in range(16):
             runs = [0] * 4
             runs[index % 4] = dice.between(100, 999)
-            tasks.append(task(999999999, dice.between(1, 999), runs))
+            tasks.append(task(999999999, dice.between(1, 999), *runs))
         # Three tasks in a row are on three machines, so each of these messages takes a row.
         ends = [(b - step, b) for b in range(2, 17) for step in (3, 2, 1) if b > step and (step < 3 or b > 13)]
         messages = [(a, b, dice.between(1, 300)) for a, b in ends] if number < 6 else []
@@ -189,10 +173,10 @@ def worst(dice):
     script = b""
     # Rows of 3 ticks and 1 tick between them, from late to early: a pass over them moves a search by one row.
     for number in range(1, 241):
-        script += submit(number, [task(9999, 1 + 4 * (240 - number), (3, 0, 0, 0))])
+        script += submit(number, [task(9999, 1 + 4 * (240 - number), 3, 0, 0, 0)])
     ends = [(a, 14) for a in (1, 2, 3)] + [(a, 15) for a in range(1, 15)] + [(a, 16) for a in range(1, 16)]
     for number in range(241, 267):
-        tasks = [task(9999, 0, (5, 90, 90, 90)) for _ in range(16)]
+        tasks = [task(9999, 0, 5, 90, 90, 90) for _ in range(16)]
         script += submit(number, tasks, [(a, b, dice.between(1, 9)) for a, b in ends], sched=1)
         script += withdraw(number)
     return script
@@ -203,18 +187,63 @@ def worst_link(dice):
     # Fifteen senders on machine 1, the last one first, and their messages to machine 2: rows of 2 ticks and 2 ticks
     # between them, from late to early within a job and from job to job.
     for number in range(1, 9):
-        tasks = [task(9900 - index, 4, (1, 0, 0, 0)) for index in range(15)] + [task(9999, 0, (0, 1, 0, 0))]
+        tasks = [task(9900 - index, 4, 1, 0, 0, 0) for index in range(15)] + [task(9999, 0, 0, 1, 0, 0)]
         script += submit(number, tasks, [(a, 16, 1) for a in range(1, 16)], sched=500 + 60 * (8 - number))
     # Senders that end just before the earliest of these rows, so that each message has to pass them all.
     ends = [(a, b) for b in range(9, 17) for a in (1, 3, 5, 7)]
     for number in range(9, 44):
-        tasks = [task(9999, 0, (1, 0, 0, 0)) for _ in range(8)] + [task(9999, 0, (0, 1, 0, 0)) for _ in range(8)]
+        tasks = [task(9999, 0, 1, 0, 0, 0) for _ in range(8)] + [task(9999, 0, 0, 1, 0, 0) for _ in range(8)]
         script += submit(number, tasks, [(a, b, dice.between(5, 9)) for a, b in ends], sched=496)
     return script
 
 
+def zigzag(dice):
+    slots = list(range(0, 241, 2)) + list(range(239, 0, -2))
+    script = b"".join(submit(number, [task(9999, slot, 1, 0, 0, 0)]) for number, slot in enumerate(slots, 1))
+    number = len(slots)
+    while True:
+        number += 1
+        more = submit(number, [task(9999, 0, 1, 0, 0, 0) for _ in range(16)])
+        if len(script) + len(more) > LIMIT:
+            return script
+        script += more
+
+
+def ended(dice):
+    script = b""
+    for number in range(1, 129):
+        script += submit(number, [task(9999, 0, 1, 0, 0, 0), task(999999999, 0, 0, 900000, 0, 0)])
+    tick = 200
+    while len(script) + 20 <= LIMIT:
+        script += clock(tick)
+        tick += dice.below(2)
+    return script
+
+
+def tiny(_):
+    return clock(0) * (LIMIT // len(clock(0)))
+
+
+def refill(dice):
+    def some_job(number):
+        runs = [0] * 4
+        runs[dice.below(4)] = dice.between(1, 9)
+        return submit(number, [task(99999, dice.below(3000), *runs)])
+
+    held = list(range(1, 257))
+    script = b"".join(some_job(number) for number in held)
+    number = len(held)
+    while True:
+        number += 1
+        more = withdraw(held.pop(dice.below(len(held)))) + some_job(number)
+        if len(script) + len(more) > LIMIT:
+            return script
+        script += more
+        held.append(number)
+
+
 def first(_):
-    return (pathlib.Path(__file__).resolve().parent.parent / "examples" / "first.script").read_bytes()
+    return (ROOT / "examples" / "first.script").read_bytes()
 
 
 INPUTS = {
@@ -223,6 +252,10 @@ INPUTS = {
     "listing": listing,
     "worst": worst,
     "worst-link": worst_link,
+    "zigzag": zigzag,
+    "ended": ended,
+    "tiny": tiny,
+    "refill": refill,
     "first": first,
 }
 

@@ -8,13 +8,13 @@ The container holds, for each case in a row: `script=N`, a line feed, N bytes
 of script, `output=M`, a line feed, M bytes of the output that is due. No
 program is run to find an output: each is composed here, by hand or from the
 kind of damage done to the script, and the scripts of examples/ have theirs
-beside them.
+beside them. tests/generated compares the container with what this writes.
 """
 
-import pathlib
 import sys
 
-LIMIT = 65536
+import scripts
+from scripts import ACTS, LIMIT, clock, lines, submit, task, withdraw
 
 cases = []
 
@@ -22,11 +22,6 @@ cases = []
 def case(name, script, output):
     assert isinstance(script, bytes) and isinstance(output, bytes)
     cases.append((name, script, output))
-
-
-def lines(*fields):
-    """Fields given with spaces, as one field a line."""
-    return b"".join(f.encode() + b"\n" for part in fields for f in part.split())
 
 
 # What is printed.
@@ -63,26 +58,8 @@ def listing(clock, total, *rows):
 # What is read.
 
 
-def task(deadline, dispatch, a, b, c, d):
-    return f"deadline={deadline} dispatch={dispatch} run={a} run={b} run={c} run={d}"
-
-
-def submit(job, tasks, messages=(), sched=0):
-    fields = [f"act=submit job={job} sched={sched} tasks={len(tasks)}", *tasks, f"messages={len(messages)}"]
-    fields += [f"from={a} to={b} volume={v}" for a, b, v in messages]
-    return lines(*fields)
-
-
 def one(job, deadline, dispatch, a, b, c, d, sched=0):
     return submit(job, [task(deadline, dispatch, a, b, c, d)], sched=sched)
-
-
-def withdraw(job):
-    return lines(f"act=withdraw job={job}")
-
-
-def clock(tick):
-    return lines(f"act=clock tick={tick}")
 
 
 # Two beginnings: none at all, and example A admitted.
@@ -466,9 +443,8 @@ def withdrawals_and_clock():
 
 
 def act_lines():
-    acts = (b"act=submit\n", b"act=withdraw\n", b"act=clock\n")
-    rest = {acts[0]: A[len(acts[0]) :], acts[1]: lines("job=7"), acts[2]: lines("tick=3")}
-    for act in acts:
+    rest = dict(zip(ACTS, (A[len(ACTS[0]) :], lines("job=7"), lines("tick=3"))))
+    for act in ACTS:
         name = act.decode().strip()
         for cut in range(1, len(act)):
             reading_refusal(f"{name} cut after {cut} bytes", 17, act[:cut])
@@ -494,7 +470,7 @@ def act_lines():
             assert damaged != act
             reading_refusal(f"{name} {way}", 17, damaged, rest[act])
     for odd in (b"act=look\n", b"act=tally\n", b"act=\n", b"act=1\n", b"act=submit=\n", b"job=7\n", b"tick=3\n"):
-        reading_refusal(f"act line {odd!r}", 17, odd, rest[acts[0]])
+        reading_refusal(f"act line {odd!r}", 17, odd, rest[ACTS[0]])
     for odd in (b"\n", b"\r\n", b"\n\n", b" ", b"x", b"\0", b"\xff", b"\x1a", b"0", b"a"):
         reading_refusal(f"bytes {odd!r} where a call is due", 17, odd, both=True)
     case("A, then a good call, then bytes", A + withdraw(7) + b"\n", A_ANSWER + answer(0) + refused(17) + FRESH)
@@ -687,7 +663,7 @@ def counts():
     reading_refusal("tasks=17 and no line feed", 15, head + b"tasks=17")
     reading_refusal("messages=33 and no line feed", 15, one_task + b"messages=33")
     # The greatest counts: all on machine 1, so that no message takes a row.
-    pairs = [(a, b, 1000) for b in range(2, 17) for a in range(1, b)][:32]
+    pairs = [(a, b, 1000) for a, b in scripts.pairs(16)][:32]
     case(
         "16 tasks and 32 messages",
         submit(8, [task(16, 0, 1, 0, 0, 0)] * 16, pairs),
@@ -731,8 +707,7 @@ def length():
 
 
 def examples():
-    folder = pathlib.Path(__file__).resolve().parents[2] / "examples"
-    for script in sorted(folder.glob("*.script")):
+    for script in scripts.examples():
         case(f"examples/{script.name}", script.read_bytes(), script.with_suffix(".out").read_bytes())
 
 

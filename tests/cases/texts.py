@@ -5,38 +5,37 @@
 
 The examples A, H and K; figures of one to ten digits, the least and the largest of each; the shortest and the longest
 text; and, with figures drawn by a fixed seed, each count of tasks and each count of messages at least once.
+tests/generated compares that file with what this writes.
 """
 
 import random
 import sys
 
-import make
-
-TASKS, MESSAGES, DIGITS = 16, 32, 10
+from scripts import DIGITS, MESSAGES, SEED, TASKS, submit, task
 
 
 def text(job, tasks, messages=(), sched=0):
     """A job text: what stands after the act line of its submission."""
-    return make.submit(job, tasks, messages, sched).partition(b"\n")[2]
+    return submit(job, tasks, messages, sched).partition(b"\n")[2]
 
 
 def alike(figure, tasks, messages):
     """A job whose every figure is the same."""
-    return text(figure, [make.task(*[figure] * 6)] * tasks, [(figure,) * 3] * messages, figure)
+    return text(figure, [task(*[figure] * 6)] * tasks, [(figure,) * 3] * messages, figure)
 
 
 def drawn(dice, tasks, messages):
     def figure():
         return dice.randrange(10 ** dice.randint(1, DIGITS))
 
-    each = [make.task(*(figure() for _ in range(6))) for _ in range(tasks)]
+    each = [task(*(figure() for _ in range(6))) for _ in range(tasks)]
     return text(figure(), each, [(figure(), figure(), figure()) for _ in range(messages)], figure())
 
 
 def texts():
-    yield text(7, [make.task(10, 1, 4, 5, 0, 2)])
-    yield text(8, [make.task(20, 1, 4, 0, 0, 0), make.task(16, 1, 0, 5, 0, 0)], [(1, 2, 3)])
-    three = [make.task(10, 0, 4, 0, 0, 0), make.task(20, 0, 2, 0, 0, 0), make.task(30, 0, 0, 5, 0, 0)]
+    yield text(7, [task(10, 1, 4, 5, 0, 2)])
+    yield text(8, [task(20, 1, 4, 0, 0, 0), task(16, 1, 0, 5, 0, 0)], [(1, 2, 3)])
+    three = [task(10, 0, 4, 0, 0, 0), task(20, 0, 2, 0, 0, 0), task(30, 0, 0, 5, 0, 0)]
     yield text(9, three, [(1, 3, 2), (2, 3, 2)])
     for digits in range(1, DIGITS + 1):
         yield alike(10 ** (digits - 1), 2, 2)
@@ -45,7 +44,7 @@ def texts():
         for tasks in (1, TASKS):
             for messages in (0, MESSAGES):
                 yield alike(figure, tasks, messages)
-    dice = random.Random(20050704)
+    dice = random.Random(SEED)
     for messages in range(MESSAGES + 1):
         yield drawn(dice, 1 + messages % TASKS, messages)
 

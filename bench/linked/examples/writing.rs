@@ -9,7 +9,7 @@ use std::time::Instant;
 use baseline::job::{Job, Message, Task, MAX_MESSAGES, MAX_TASKS};
 use baseline::text::write_job;
 use common::{figures, Dice};
-use linked::register_write_job;
+use register::write_job_into;
 
 const JOBS: usize = 400;
 const PASSES: usize = 301;
@@ -66,7 +66,7 @@ fn main() {
     let mut bytes = 0;
     for _ in 0..PASSES {
         let linked = |buffer: &mut [u8]| {
-            let write = |row: &Vec<u64>| register_write_job(row, buffer).unwrap();
+            let write = |row: &Vec<u64>| write_job_into(row, buffer).unwrap();
             rows.iter().map(write).sum()
         };
         let (time, written) = timed(linked, &mut buffer);

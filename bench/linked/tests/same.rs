@@ -9,7 +9,7 @@ use std::fs;
 use std::path::{Path, PathBuf};
 
 use common::{setting, Dice};
-use linked::{register_run, OUTPUT};
+use register::{run_into, OUTPUT};
 
 /// How many damaged scripts are tried; the environment may say another count.
 const MUTATIONS: u64 = 20_000;
@@ -39,7 +39,7 @@ impl Buffers {
         let mut outputs = Vec::new();
         for (fill, buffer) in &mut self.0 {
             buffer.fill(*fill);
-            let count = register_run(&script, buffer);
+            let count = run_into(&script, buffer);
             if count > OUTPUT {
                 return Err(format!("answers {count} bytes"));
             }

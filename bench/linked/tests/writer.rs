@@ -7,8 +7,7 @@ use std::collections::BTreeMap;
 
 use baseline::job::{Job, Message, Task, MAX_MESSAGES, MAX_TASKS};
 use baseline::text::{read_job, write_job};
-use common::{figures, setting, Dice};
-use linked::register_write_job;
+use common::{figures, setting, written, Dice};
 
 const JOBS: u64 = 50_000;
 const SEED: u64 = 20_050_704;
@@ -90,7 +89,7 @@ fn made_up_jobs() {
         let length = left(ROOM, baseline).0.unwrap_or(0);
         for room in [0, length.saturating_sub(1), length, length + 1, dice.below(ROOM)] {
             let due = left(room, baseline);
-            let given = left(room, |buffer| register_write_job(&row, buffer));
+            let given = left(room, |buffer| written(&row, buffer));
             assert!(given == due, "job {turn} of seed {seed}, a buffer of {room}");
             *numbers.entry(given.0.err().unwrap_or(0)).or_default() += 1;
             if let Ok(length) = given.0 {
@@ -104,7 +103,7 @@ fn made_up_jobs() {
         longer.push(dice.figure(false));
         for ill in [&row[..row.len() - 1], &longer, &row[..dice.below(row.len())]] {
             for room in [0, ROOM] {
-                let given = left(room, |buffer| register_write_job(ill, buffer));
+                let given = left(room, |buffer| written(ill, buffer));
                 assert_eq!(given, left(room, |_| Err(20)));
             }
         }

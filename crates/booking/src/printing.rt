@@ -2,9 +2,9 @@
 use reservation::Register;
 use rules::Answer;
 use rules::Holder;
+use rules::ROWS;
 use rules::Row;
 use rules::Seen;
-ghost use Rattle.reservation.specs.Registers.{Valid};
 
 pub fn heading(name: &[u8]) {
     io::write_all(1, name);
@@ -27,9 +27,9 @@ pub fn print_answer(answer: Answer) {
 fn print_holder(holder: Holder, job: u64) {
     match holder {
         Holder::TaskOn { machine, task } => {
-            figure(b"machine=", machine);
+            figure(b"machine=", machine as u64);
             figure(b" job=", job);
-            figure(b" task=", task);
+            figure(b" task=", task as u64);
         }
         Holder::MessageOn {
             source,
@@ -37,20 +37,20 @@ fn print_holder(holder: Holder, job: u64) {
             sender,
             receiver,
         } => {
-            figure(b"link=", source);
-            figure(b" to=", target);
+            figure(b"link=", source as u64);
+            figure(b" to=", target as u64);
             figure(b" job=", job);
-            figure(b" from=", sender);
-            figure(b" task=", receiver);
+            figure(b" from=", sender as u64);
+            figure(b" task=", receiver as u64);
         }
     }
 }
 
 fn print_row(row: Row) {
     let holder = row.holder;
-    print_holder(holder, row.job);
-    figure(b" start=", row.start);
-    figure(b" finish=", row.finish);
+    print_holder(holder, row.job as u64);
+    figure(b" start=", row.start as u64);
+    figure(b" finish=", row.finish as u64);
     figure(b" cost=", row.cost);
     io::write_all(1, b"\n");
 }
@@ -72,14 +72,13 @@ pub fn print_state(register: Register) {
 }
 
 // The same, then the rows in the order in which they are held.
-pub fn print_register(register: Register)
-    requires { ⌜ Valid register ⌝ }
-{
+pub fn print_register(register: Register) {
     print_state(register);
     let count = register.count();
-    let mut i: usize = 0;
-    while i < count {
-        print_row(register.row(i));
-        i += 1;
+    let rows = register.rows();
+    for i in 0..ROWS {
+        if i < count {
+            print_row(rows[i]);
+        }
     }
 }

@@ -22,8 +22,8 @@ use crate::jobs::with_message;
 use crate::jobs::with_task;
 use crate::printing::heading;
 use crate::printing::print_state;
+use admission::calls::Kind;
 use reservation::Register;
-use reservation::calls::Kind;
 ghost use Rattle.reservation.specs.Registers.{Valid};
 
 const GREATEST: u64 = 18_446_744_073_709_551_615;

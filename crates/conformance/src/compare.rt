@@ -14,7 +14,6 @@ use rules::tables::machine_rate;
 use rules::tables::transfer_rate;
 use rules::tables::transfer_time;
 ghost use Prim.Native.Nat.{_≤_};
-ghost use Rattle.reservation.specs.Registers.{Valid};
 
 pub fn same_answer(ours: Answer, theirs: RefAnswer) -> bool {
     if ours.number != theirs.number {
@@ -58,15 +57,15 @@ fn same_message(sender: u64, receiver: u64, theirs: RefRow) -> bool {
 
 fn same_holder(ours: Holder, theirs: RefRow) -> bool {
     match ours {
-        Holder::TaskOn { machine, task } => same_task(machine, task, theirs),
+        Holder::TaskOn { machine, task } => same_task(machine as u64, task as u64, theirs),
         Holder::MessageOn {
             source,
             target,
             sender,
             receiver,
         } => {
-            if same_ends(source, target, theirs) {
-                same_message(sender, receiver, theirs)
+            if same_ends(source as u64, target as u64, theirs) {
+                same_message(sender as u64, receiver as u64, theirs)
             } else {
                 false
             }
@@ -75,13 +74,13 @@ fn same_holder(ours: Holder, theirs: RefRow) -> bool {
 }
 
 fn same_figures(ours: Row, theirs: RefRow) -> bool {
-    if ours.job != theirs.job {
+    if ours.job as u64 != theirs.job {
         return false;
     }
-    if ours.start != theirs.start {
+    if ours.start as u64 != theirs.start {
         return false;
     }
-    if ours.finish != theirs.finish {
+    if ours.finish as u64 != theirs.finish {
         return false;
     }
     ours.cost == theirs.cost
@@ -130,13 +129,12 @@ pub fn states_apart(ours: Register, theirs: Book) -> u64 {
 }
 
 // The rows, up to the larger count.
-pub fn rows_apart(ours: Register, theirs: Book, count: usize) -> u64
-    requires { ⌜ Valid ours ⌝ }
-{
+pub fn rows_apart(ours: Register, theirs: Book, count: usize) -> u64 {
+    let rows = ours.rows();
     let mut apart: u64 = 0;
     for i in 0..256 {
         if i < count {
-            if !same_row(ours.row(i), theirs.rows[i]) {
+            if !same_row(rows[i], theirs.rows[i]) {
                 apart = plus(apart, 1);
             }
         }

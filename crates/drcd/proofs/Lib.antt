@@ -10,6 +10,7 @@ pub mod TriedRows
 pub mod Attempts
 pub mod Chosen
 pub mod Floors
+pub mod Entries
 pub mod Booked
 pub mod Pushing
 pub mod Appending

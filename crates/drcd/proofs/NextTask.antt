@@ -21,7 +21,7 @@ use Rattle.rules.proofs.Choice.{false-precedes, lower-precedes}
 use Rattle.figures.specs.Rows.{DeadlineIs}
 use Rattle.figures.specs.declared.jobs.Layout.{Layout}
 use Rattle.drcd.specs.Given.{JobIs, StandsFor}
-use Rattle.drcd.specs.Order.{WaitsIs, NextIs}
+use Rattle.drcd.specs.Order.{WaitsIs, NextReadyIs}
 use Rattle.drcd.proofs.JobFigures.{task-below, task-few, deadline-read}
 use Rattle.drcd.proofs.Foremost.{later, foremost-more, keep-passing, keep-failing}
 use Rattle.drcd.proofs.Waiting.{all-placed}
@@ -66,7 +66,7 @@ no-earlier :
 no-earlier j t best h k = false-precedes _ _ _ _ k (λ e. false-precedes (t + 1) best [] [] (omega arith) (λ q. absurd (omega arith)))
 
 module _ {row : List ℕ} {layout : Layout} {machines : List ℕ} {best deadline t : ℕ} (sofar : Best row layout machines best deadline t) where
-  pub best-found : layout .tasks ≤ t → NextIs row layout machines best
+  pub best-found : layout .tasks ≤ t → NextReadyIs row layout machines best
   unfolding next-task
   best-found all = λ s j new finishes job stands.
       let same : t ≡ j .taskcount = let count = job .laid .tasks-are in let w = sofar .within in omega arith in

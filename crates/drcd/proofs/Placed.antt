@@ -10,15 +10,15 @@ use native.Mathlib.Nat.{sub-zero}
 use native.Mathlib.Omega.{arith}
 use native.Mathlib.Numerals.{add-one}
 use lib.Dec.{ltb, eqb}
-use lib.ListN.{length, getD, set, replicate, length-set, length-append, length-take, length-replicate, getD-replicate}
-use lib.Seq.{length-take-le, getD-set-same, getD-set-other}
+use lib.ListN.{length, getD, set, replicate, length-set, length-append, length-take, getD-replicate}
+use lib.Seq.{getD-set-same, getD-set-other}
 use borrow.Author.Tests.{eqb-true, eqb-false, eq-eqb, lt-ltb, ltb-false, not-true}
 use Rattle.rules.specs.declared.Row.{Row}
 use Rattle.rules.specs.declared.Message.{Message}
 use Rattle.rules.specs.declared.Job.{Job}
 use Rattle.rules.specs.declared.Setup.{Setup}
 use Rattle.rules.specs.Sequences.{all-of}
-use Rattle.rules.specs.Words.{hold-of, most-tasks, messages-of, task-of}
+use Rattle.rules.specs.Words.{hold-of, row-limit, most-tasks, messages-of, task-of}
 use Rattle.rules.specs.Placing.{Ground, on-rows, is-task, books-task, no-row, task-row, machine-of, machine-for, placed, into, ready, next-task}
 use Rattle.rules.specs.Placing.{Trial, trial-rows, costs, try, choice, Turn, over, misses, books, turn, Placing, booked, late, place-from, place}
 use Rattle.rules.specs.Laws.{IsNext, IsKept}
@@ -35,21 +35,27 @@ use Rattle.rules.proofs.Bounds.{listed-machine, InBounds, turn-in-bounds, task-
 use Rattle.rules.proofs.Counted.{due-length}
 use Rattle.rules.proofs.Apart.{AllApart, turn-apart, shares-none-apart, apart-shares-none}
 use Rattle.rules.proofs.Resources.{holds-append}
-use Rattle.timeline.specs.RowLine.{TimelineOf}
-use Rattle.timeline.proofs.Grown.{timeline-drawn}
+use Rattle.timeline.specs.RowLine.{most-own}
 use Rattle.drcd.specs.declared.TaskTurn.{TaskTurn}
 use Rattle.drcd.specs.declared.choice.Kept.{Kept}
 use Rattle.drcd.specs.declared.place.Placement.{Placement}
 use Rattle.drcd.specs.Given.{StandsFor}
 use Rattle.drcd.specs.Inputs.{InputsOf}
 use Rattle.drcd.specs.Trials.{reach, Scene, IsTrial}
-use Rattle.drcd.specs.Appending.{most-own, rows-of, Keeping, AppendedIs}
-use Rattle.drcd.specs.Placements.{none-placed, Placeable, placing-of, PlacementIs}
+use Rattle.drcd.specs.Own.{owned, OwnRows}
+use Rattle.drcd.specs.Appending.{SpansOf, Keeping, Appended, AppendedIs}
+use Rattle.drcd.specs.Placements.{Placeable, placing-of, Placed}
+use Rattle.drcd.proofs.Pushing.{spans-drawn}
+use Rattle.drcd.proofs.Appending.{in-range-drawable}
 use Rattle.drcd.proofs.Floors.{Released, released-none, TurnOf, release-low, release-now, released-more}
 
 pub placing-late : (rows : List Row) (t : ℕ) → 1 ≤ t → placing-of t rows ≡ late t
 placing-late rows zero h = absurd (omega arith)
 placing-late rows (suc t) h = refl
+
+-- what is answered at the end
+abbrev pub ended-with : (held used cost t : ℕ) → Placement
+ended-with held used cost t = record { late = t; count = used - held; cost = cost }
 
 pub costs-at-most : (s : Setup) (rows : List Row) → ((row : Row) → List·Memᴰ row rows → RowInRange s row) → costs rows ≤ length rows * largest-cost
 costs-at-most s [] h = omega arith
@@ -58,8 +64,8 @@ costs-at-most s (row ∷ rows) h =
     let below = costs-at-most s rows (λ r n. h r (List·Memᴰ·tail n)) in
     omega arith
 
-module _ (s : Setup) (j : Job) (rows : List Row) {table row : List ℕ} {base : ℕ} {begins₀ ends₀ places₀ : List ℕ} {held : ℕ}
-    (ask : Placeable s j rows table row base begins₀ ends₀ places₀ held) where
+module _ (s : Setup) (j : Job) (rows : List Row) {table row : List ℕ} {base : ℕ} {begins₀ ends₀ : List ℕ} {held : ℕ}
+    (ask : Placeable s j rows table row base begins₀ ends₀ held) where
   abbrev range : InRange s j
   range = ask .lent .range
 
@@ -67,34 +73,36 @@ module _ (s : Setup) (j : Job) (rows : List Row) {table row : List ℕ} {base : 
   ground = on-rows base rows
 
   -- what holds before each turn
-  pub record SoFar (machines finishes begins ends places : List ℕ) (own : Placement) (release turns : ℕ) : Type 0 where
+  pub record SoFar (machines finishes begins ends own : List ℕ) (used cost release turns : ℕ) : Type 0 where
+    pub new : List Row
     pub within : turns ≤ j .taskcount
-    pub not-late : own .late ≡ 0
     pub machines-long : length machines ≡ most-tasks
     pub finishes-long : length finishes ≡ most-tasks
-    pub long : length (own .rows) ≡ most-own
-    pub count-at-most : own .count ≤ most-own
-    pub cost-is : own .cost ≡ costs (rows-of own)
-    pub line : TimelineOf (rows ++ rows-of own) begins ends places
-    pub stands : StandsFor (rows-of own) machines finishes
-    pub in-bounds : InBounds s j range (ask .sound) (rows-of own)
-    pub apart : AllApart (rows ++ rows-of own)
+    pub used-is : used ≡ held + length new
+    pub count-at-most : length new ≤ most-own
+    pub cost-is : cost ≡ costs new
+    pub spans : SpansOf (rows ++ new) begins ends
+    pub own-is : OwnRows rows new own
+    pub stands : StandsFor new machines finishes
+    pub in-bounds : InBounds s j range (ask .sound) new
+    pub apart : AllApart (rows ++ new)
     pub floor : Released j base machines release turns
-    pub rest : place s ground j ≡ place-from s ground j (j .taskcount - turns) (rows-of own)
+    pub rest : place s ground j ≡ place-from s ground j (j .taskcount - turns) new
 
   -- before the first turn
-  pub so-far-none : SoFar (replicate most-tasks 0) (replicate most-tasks 0) begins₀ ends₀ places₀ (none-placed 0) base 0
-  unfolding none-placed place
-  so-far-none =
+  pub so-far-none : {own₀ : List ℕ} → length own₀ ≡ owned → SoFar (replicate most-tasks 0) (replicate most-tasks 0) begins₀ ends₀ own₀ held 0 base 0
+  unfolding place
+  so-far-none long =
       record {
+        new = [];
         within = omega arith;
-        not-late = refl;
         machines-long = refl;
         finishes-long = refl;
-        long = length-replicate most-own no-row;
+        used-is = omega arith;
         count-at-most = omega arith;
         cost-is = refl;
-        line = rw (append-nil rows) (ask .line);
+        spans = rw (append-nil rows) (ask .spans);
+        own-is = record { long = long; is = λ i h. absurd (omega arith); goes = λ i h. absurd (omega arith) };
         stands = record {
           placed-is = λ t on. let low = on .first in let high = on .last in ap (ltb 0) (sym (getD-replicate most-tasks (t - 1) 0 0 (omega arith)));
           machine-is = λ t on h. clash h refl;
@@ -132,22 +140,25 @@ module _ (s : Setup) (j : Job) (rows : List Row) {table row : List ℕ} {base : 
   unfolding place-from turn
   turn-books new k t trial e c = ap (λ o. after-turn k new (with-task new o)) e ∙ ap (λ o. after-turn k new (with-trial t o)) c
 
-  module _ {machines finishes begins ends places : List ℕ} {own : Placement} {release turns : ℕ}
-      (p : SoFar machines finishes begins ends places own release turns) where
+  module _ {machines finishes begins ends own : List ℕ} {used cost release turns : ℕ}
+      (p : SoFar machines finishes begins ends own used cost release turns) where
     abbrev new : List Row
-    new = rows-of own
-
-    pub new-length : length new ≡ own .count
-    new-length = let long = p .long in let few = p .count-at-most in length-take-le (own .count) (own .rows) (omega arith)
+    new = p .new
 
     all-in-range : (r : Row) → List·Memᴰ r (rows ++ new) → RowInRange s r
     all-in-range r n = ⊎-elim (ask .rows-in-range r) (p .in-bounds .in-range r) (List·Memᴰ·append-cases rows n)
 
-    pub cost-at-most : own .cost ≤ most-own * largest-cost
+    pub used-few : (held ≤ used) × (used ≤ row-limit + most-own)
+    used-few =
+        let is = p .used-is in
+        let few = p .count-at-most in
+        let before = ask .held-few in
+        (omega arith, omega arith)
+
+    pub cost-at-most : cost ≤ most-own * largest-cost
     cost-at-most =
         let spent = costs-at-most s new (p .in-bounds .in-range) in
         let is = p .cost-is in
-        let long = new-length in
         let few = p .count-at-most in
         omega arith
 
@@ -196,16 +207,21 @@ module _ (s : Setup) (j : Job) (rows : List Row) {table row : List ℕ} {base : 
       release-fits more = release-low (p .floor) turn-of more
 
       module _ (inputs : List ℕ) (turn : TaskTurn) (index : turn .t ≡ i) (more : turns < j .taskcount)
-          (release-is : turn .release ≡ release + task-of j (i + 1) .dispatch) (used-is : turn .used ≡ held + own .count)
+          (release-is : turn .release ≡ release + task-of j (i + 1) .dispatch) (used-is : turn .used ≡ used)
           (gathered : InputsOf j new (i + 1) inputs (turn .inputs)) where
         pub scene : Scene s j ground new table inputs begins ends turn
         scene =
-            let both : length (rows ++ new) ≡ turn .used = length-append rows new ∙ (let l = new-length in let h = ask .held-is in omega arith) in
+            let before = length-append rows new in
+            let few = used-few .1 in
+            let both : turn .used ≡ length (rows ++ new) = omega (arith, p .used-is, ask .held-is) in
             record {
               sound = ask .sound;
               range = range;
               table-is = ask .lent .table-is;
-              drawn = rw (← both, ← holds-append rows new) (timeline-drawn (p .line));
+              drawn =
+                  rw
+                  (← holds-append rows new)
+                  (spans-drawn (p .spans) both (omega arith) (λ r n. in-range-drawable (ask .sound) (all-in-range r n)) (p .apart));
               held-end =
                   λ h n.
                   let of = map-mem hold-of (rows ++ new) (rw (← holds-append rows new) at n) in
@@ -257,22 +273,19 @@ module _ (s : Setup) (j : Job) (rows : List Row) {table row : List ℕ} {base : 
               let listed = length-take (j .messagecount) (j .messages) in
               omega arith
 
-          pub keeping :
-              turn .job ≡ j .number → turn .held ≡ held →
-              Keeping s j base rows own kept table inputs begins ends places turn
-          keeping number-is held-same =
+          pub keeping : turn .held ≡ held → Keeping s j base rows new kept table inputs begins ends own turn
+          keeping held-same =
               let both = length-append new (trial-rows trial) in
               let fit = all-fit in
-              let long = new-length in
               record {
                 scene = scene;
-                number-is = number-is;
                 held-is = held-same ∙ ask .held-is;
-                used-is = rw held-same used-is;
+                used-is = rw held-same (used-is ∙ p .used-is);
                 held-few = rw held-same (ask .held-few);
                 there = kept-machine;
                 trial = rw index it;
-                line = p .line;
+                spans = p .spans;
+                own-is = p .own-is;
                 in-range = rw index (λ r n. in-bounds-more .in-range r (Memᴰ·append-right new n));
                 apart = rw index (apart-shares-none (rows ++ (new ++ trial-rows trial)) apart-more);
                 fits = rw index (omega arith);
@@ -353,32 +366,31 @@ module _ (s : Setup) (j : Job) (rows : List Row) {table row : List ℕ} {base : 
               was-placed u e h = ⊎-elim (λ x. x) (λ x. clash x e) (or-cases (placed new u) (eqb (i + 1) u) h)
 
           pub so-far-more :
-              turn .job ≡ j .number → turn .held ≡ held →
-              {begins′ ends′ places′ : List ℕ} {own′ : Placement} →
-              AppendedIs own kept table inputs begins ends places turn begins′ ends′ places′ own′ →
-              SoFar (set machines i m) (set finishes i (kept .best .finish)) begins′ ends′ places′ own′ (turn .release) (suc turns)
-          so-far-more number-is held-same {own′ = own′} appended =
-              let left = appended .is s j base rows (keeping number-is held-same) in
-              let rows-now : rows-of own′ ≡ new ++ trial-rows trial
-              = left .0 ∙ ap (λ k. new ++ trial-rows (try s ground j new (k + 1) m)) index in
+              turn .held ≡ held → {begins′ ends′ own′ : List ℕ} {used′ : ℕ} →
+              AppendedIs kept table inputs begins ends own turn begins′ ends′ own′ used′ →
+              SoFar (set machines i m) (set finishes i (kept .best .finish)) begins′ ends′ own′ used′ (cost + kept .best .cost) (turn .release) (suc turns)
+          so-far-more held-same {begins′} {ends′} {own′} {used′} appended =
+              let left : Appended s j base rows new kept turn begins′ ends′ own′ used′ = appended .is s j base rows new (keeping held-same) in
+              let both = length-append new (trial-rows trial) in
+              let added : used′ ≡ turn .used + length (trial-rows trial) = rw index at (left .used-is) in
               let again : i + 1 - 1 ≡ i = omega arith in
               record {
+                new = new ++ trial-rows trial;
                 within = more;
-                not-late = appended .not-late;
                 machines-long = length-set machines i m ∙ p .machines-long;
                 finishes-long = length-set finishes i (kept .best .finish) ∙ p .finishes-long;
-                long = appended .long;
-                count-at-most = appended .count-at-most;
+                used-is = omega (arith, p .used-is);
+                count-at-most = all-fit;
                 cost-is =
                     let was = p .cost-is in
-                    let now = appended .cost-is in
-                    let added = it .cost-is in
+                    let spent = it .cost-is in
                     let sum = sum-append (λ row. row .cost) new (trial-rows trial) in
-                    rw rows-now (omega arith);
-                line = left .1;
-                stands = rw rows-now stands-more;
-                in-bounds = rw rows-now in-bounds-more;
-                apart = rw rows-now apart-more;
+                    omega arith;
+                spans = rw index at (left .spans);
+                own-is = rw index at (left .own-is);
+                stands = stands-more;
+                in-bounds = in-bounds-more;
+                apart = apart-more;
                 floor =
                     rw
                     release-is
@@ -388,45 +400,42 @@ module _ (s : Setup) (j : Job) (rows : List Row) {table row : List ℕ} {base : 
                     (rw (add-one turns) at (released-more (p .floor) turn-of (p .machines-long) (kept-machine .first))));
                 rest =
                     let left-now : j .taskcount - turns ≡ suc (j .taskcount - suc turns) = omega arith in
-                    rw
-                    rows-now
-                    (p .rest
+                    p .rest
                     ∙ ap (λ k. place-from s ground j k new) left-now
-                    ∙ turn-books new (j .taskcount - suc turns) (i + 1) trial is-next is-choice);
+                    ∙ turn-books new (j .taskcount - suc turns) (i + 1) trial is-next is-choice;
               }
 
-    -- The other ways that a turn goes.
+    -- The ways that the turns end.
 
-    pub turn-none : next-task j new ≡ none → turns < j .taskcount → PlacementIs s base rows j own
+    ended : (t : ℕ) → placing-of t new ≡ place s ground j → Placed s base rows j begins ends own (ended-with held used cost t)
+    ended t is = record {
+      new = new;
+      is = is;
+      count-is = omega (arith, p .used-is);
+      cost-is = p .cost-is;
+      in-range = p .in-bounds .in-range;
+      spans = p .spans;
+      own-is = p .own-is;
+    }
+
+    pub turn-none : next-task j new ≡ none → turns < j .taskcount → Placed s base rows j begins ends own (ended-with held used cost 0)
     turn-none e h =
         let left : j .taskcount - turns ≡ suc (j .taskcount - suc turns) = omega arith in
-        record {
-          is = rw (p .not-late) (sym (p .rest ∙ ap (λ k. place-from s ground j k new) left ∙ turn-over new (j .taskcount - suc turns) e));
-          count-at-most = p .count-at-most;
-          long = p .long;
-          cost-is = p .cost-is;
-        }
+        ended 0 (sym (p .rest ∙ ap (λ k. place-from s ground j k new) left ∙ turn-over new (j .taskcount - suc turns) e))
 
-    pub turn-late : (t : ℕ) → next-task j new ≡ some t → choice s ground j new t ≡ none → turns < j .taskcount → PlacementIs s base rows j (none-placed t)
-    unfolding none-placed
+    pub turn-late :
+        (t : ℕ) → next-task j new ≡ some t → choice s ground j new t ≡ none → turns < j .taskcount →
+        Placed s base rows j begins ends own (ended-with held used cost t)
     turn-late t e c h =
         let left : j .taskcount - turns ≡ suc (j .taskcount - suc turns) = omega arith in
         let low = next-is-next j new t e .is-task .first in
-        let missing : placing-of t [] ≡ late t = placing-late [] t low in
-        record {
-          is = missing ∙ sym (p .rest ∙ ap (λ k. place-from s ground j k new) left ∙ turn-misses new (j .taskcount - suc turns) t e c);
-          count-at-most = omega arith;
-          long = length-replicate most-own no-row;
-          cost-is = refl;
-        }
+        ended
+        t
+        (placing-late new t low
+        ∙ sym (p .rest ∙ ap (λ k. place-from s ground j k new) left ∙ turn-misses new (j .taskcount - suc turns) t e c))
 
-    pub all-turns : j .taskcount ≤ turns → PlacementIs s base rows j own
+    pub all-turns : j .taskcount ≤ turns → Placed s base rows j begins ends own (ended-with held used cost 0)
     unfolding place-from
     all-turns h =
         let left : j .taskcount - turns ≡ 0 = omega arith in
-        record {
-          is = rw (p .not-late) (sym (p .rest ∙ ap (λ k. place-from s ground j k new) left));
-          count-at-most = p .count-at-most;
-          long = p .long;
-          cost-is = p .cost-is;
-        }
+        ended 0 (sym (p .rest ∙ ap (λ k. place-from s ground j k new) left))

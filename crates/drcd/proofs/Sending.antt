@@ -153,15 +153,15 @@ module _
                 (ap (λ t. start + t * c .volume) (time-is (ask .setup) (ask .table-is))))
 
             pub sent-is :
-                {tried-begins′ tried-ends′ : List ℕ} →
-                SpanPut tried-begins tried-ends count (code * tick-room + start) (code * tick-room + start + time * c .volume) tried-begins′ tried-ends′ →
+                {tried-begins′ tried-ends′ : List ℕ} {place : ℕ} →
+                SpanPut tried-begins tried-ends count (code * tick-room + start) (code * tick-room + start + time * c .volume) tried-begins′ tried-ends′ place →
                 SentIs table begins ends used tried-begins tried-ends count c tried-begins′ tried-ends′ sent
             sent-is put =
                 let len = takes in
                 let at = start-at-most in
                 record {
-                  begins-long = put .begins-long ∙ ask .begins-long;
-                  ends-long = put .ends-long ∙ ask .ends-long;
+                  begins-long = put .begins-are .long ∙ ask .begins-long;
+                  ends-long = put .ends-are .long ∙ ask .ends-long;
                   lasts = omega arith;
                   by = omega arith;
                   cost-at-most = cost-at-most fail-is;

@@ -26,7 +26,6 @@ use Rattle.rules.proofs.Order.{in-range-volume}
 use Rattle.rules.proofs.Differ.{in-range-differ}
 use Rattle.rules.proofs.Resources.{holds-append}
 use Rattle.timeline.specs.Timeline.{Drawn}
-use Rattle.timeline.proofs.Grown.{timeline-none, timeline-drawn}
 use Rattle.drcd.specs.declared.TaskTurn.{TaskTurn}
 use Rattle.drcd.specs.declared.inputs.Input.{Input}
 use Rattle.drcd.specs.declared.trial.Crossing.{Crossing}
@@ -258,6 +257,17 @@ module _
                 (List·Memᴰ·append-cases (holds tried) n));
           }
 
+-- Nothing is held.
+drawn-none : (begins ends : List ℕ) → Drawn [] begins ends 0
+drawn-none begins ends = record {
+  begins-long = omega arith;
+  ends-long = omega arith;
+  drawable = λ h n. absurd (List·Memᴰ·not-nil n);
+  there = λ h n. absurd (List·Memᴰ·not-nil n);
+  held-there = λ i h. absurd (omega arith);
+  ascends = λ i h. absurd (omega arith);
+}
+
 -- The turns.
 module _ {table inputs begins ends : List ℕ} {turn : TaskTurn} {m : ℕ} (ask : AskInputs table inputs begins ends turn m) where
   abbrev Now : (tried-begins tried-ends starts : List ℕ) (count arrived cost i : ℕ) → Type 0
@@ -279,7 +289,7 @@ module _ {table inputs begins ends : List ℕ} {turn : TaskTurn} {m : ℕ} (ask 
         λ s j g new scene there.
         record {
           so-far = record { rows-are = refl; arrived-is = scene .release-is; cost-is = refl };
-          drawn = timeline-drawn (timeline-none tried-begins tried-ends []);
+          drawn = drawn-none tried-begins tried-ends;
           ends = λ h n. absurd (List·Memᴰ·not-nil n);
         };
   }

@@ -1,109 +1,93 @@
 -- Between functions: how the rows of the trial that is kept follow those that the job has, and join the timeline.
 use mathlib.Core.Path.{_≡_}
 use mathlib.Core.List.{List, [], _∷_, _++_, List·Memᴰ}
-use Prim.Native.Nat.{ℕ, _+_, _*_, _^_, _≤_, _<_}
-use lib.ListN.{length, getD, take}
+use Prim.Native.Nat.{ℕ, _+_, _≤_, _<_}
+use lib.ListN.{length}
 use Rattle.rules.specs.declared.Row.{Row}
 use Rattle.rules.specs.declared.Job.{Job}
 use Rattle.rules.specs.declared.Setup.{Setup}
-use Rattle.rules.specs.Words.{hold-of, holds, row-limit, most-tasks, most-messages}
+use Rattle.rules.specs.Words.{hold-of, holds, row-limit}
 use Rattle.rules.specs.Placing.{on-rows, trial-rows, try}
-use Rattle.rules.specs.Bounds.{Between, RowInRange, largest-cost}
+use Rattle.rules.specs.Bounds.{Between, RowInRange}
 use Rattle.rules.specs.Demands.{NoSharedTick}
 use Rattle.timeline.specs.Timeline.{Drawable}
-use Rattle.timeline.specs.RowLine.{TimelineOf}
+use Rattle.timeline.specs.RowLine.{most-own, row-begin, row-end, line-of, column}
 use Rattle.timeline.specs.Grown.{Untaken}
 use Rattle.drcd.specs.declared.TaskTurn.{TaskTurn}
+use Rattle.drcd.specs.declared.own.Entry.{Entry}
 use Rattle.drcd.specs.declared.choice.Kept.{Kept}
-use Rattle.drcd.specs.declared.place.Placement.{Placement}
+use Rattle.drcd.specs.Own.{owned, entry-for, OwnRows}
 use Rattle.drcd.specs.Trials.{Scene, IsTrial, AttemptBounds}
 
--- a job's own rows: one for each task and one for each message at the most
-abbrev pub most-own : ℕ
-most-own = most-tasks + most-messages
-
--- the length of the columns
-abbrev pub spans-room : ℕ
-spans-room = row-limit + most-own
-
-pub record Widths (begins ends places : List ℕ) : Type 0 where
-  pub begins-long : length begins ≡ spans-room
-  pub ends-long : length ends ≡ spans-room
-  pub places-long : length places ≡ spans-room
-
--- from an index on the columns are as they were
-pub record PastSame (begins ends places : List ℕ) (from : ℕ) (begins′ ends′ places′ : List ℕ) : Type 0 where
-  pub begins-past : (k : ℕ) → from ≤ k → getD begins′ k 0 ≡ getD begins k 0
-  pub ends-past : (k : ℕ) → from ≤ k → getD ends′ k 0 ≡ getD ends k 0
-  pub places-past : (k : ℕ) → from ≤ k → getD places′ k 0 ≡ getD places k 0
-
--- the rows that a placement has so far
-abbrev pub rows-of : Placement → List Row
-rows-of own = take (own .count) (own .rows)
+-- the begins and ends of rows, in their order on the line
+pub record SpansOf (rows : List Row) (begins ends : List ℕ) : Type 0 where
+  pub begins-are : begins ≡ column row-begin (line-of rows)
+  pub ends-are : ends ≡ column row-end (line-of rows)
 
 -- One row more.
 
-pub record AskPush (own : Placement) (row : Row) (begins ends places : List ℕ) (held : ℕ) : Type 0 where
-  pub before : List Row
-  pub line : TimelineOf before begins ends places
-  pub count-is : length before ≡ held + own .count
-  pub widths : Widths begins ends places
-  pub drawable : Drawable (hold-of row)
-  pub long : length (own .rows) ≡ most-own
-  pub room : own .count < most-own
-  pub held-few : held ≤ row-limit
-  pub cost-fits : own .cost + row .cost < 2 ^ 64
+-- the rows held, those of the job so far, and what is lent of them
+pub record Pushable (rows new : List Row) (begins ends own : List ℕ) (held used : ℕ) : Type 0 where
+  pub held-is : held ≡ length rows
+  pub used-is : used ≡ length rows + length new
+  pub held-few : length rows ≤ row-limit
+  pub room : length new < most-own
+  pub drawable : (row : Row) → List·Memᴰ row (rows ++ new) → Drawable (hold-of row)
+  pub apart : NoSharedTick (rows ++ new)
+  pub spans : SpansOf (rows ++ new) begins ends
+  pub own-is : OwnRows rows new own
 
-pub record Pushed (own : Placement) (row : Row) (begins ends places : List ℕ) (held : ℕ) (begins′ ends′ places′ : List ℕ) (r : Placement) : Type 0 where
-  pub not-late : r .late ≡ 0
-  pub count-is : r .count ≡ own .count + 1
-  pub cost-is : r .cost ≡ own .cost + row .cost
-  pub long : length (r .rows) ≡ most-own
-  pub rows-are : rows-of r ≡ rows-of own ++ (row ∷ [])
-  pub widths : Widths begins′ ends′ places′
-  pub past : PastSame begins ends places (held + own .count + 1) begins′ ends′ places′
-  pub line :
-      (before : List Row) → length before ≡ held + own .count → TimelineOf before begins ends places → Untaken (holds before) (hold-of row) →
-      TimelineOf (before ++ (row ∷ [])) begins′ ends′ places′
+pub record AskPush (begins ends own : List ℕ) (held used : ℕ) : Type 0 where
+  pub rows : List Row
+  pub new : List Row
+  pub pushable : Pushable rows new begins ends own held used
+
+-- whatever rows they are, and whichever row has the figures, if nothing is held where it goes
+pub record Pushed (begins ends own : List ℕ) (held used : ℕ) (entry : Entry) (begins′ ends′ own′ : List ℕ) : Type 0 where
+  pub begins-long : length begins′ ≡ length begins
+  pub ends-long : length ends′ ≡ length ends
+  pub own-long : length own′ ≡ owned
+  pub spans-are :
+      (rows new : List Row) (row : Row) → Pushable rows new begins ends own held used → Drawable (hold-of row) →
+      Untaken (holds (rows ++ new)) (hold-of row) → entry ≡ entry-for (entry .at) row → SpansOf (rows ++ (new ++ (row ∷ []))) begins′ ends′
+  pub own-is :
+      (rows new : List Row) (row : Row) → Pushable rows new begins ends own held used → Drawable (hold-of row) →
+      Untaken (holds (rows ++ new)) (hold-of row) → entry ≡ entry-for (entry .at) row → OwnRows rows (new ++ (row ∷ [])) own′
 
 -- All rows of a trial.
 
 -- the trial is the rules' one of a task of the job, and its rows are in range, share no tick with those before them, and fit
-pub record Keeping (s : Setup) (j : Job) (base : ℕ) (rows : List Row) (own : Placement) (kept : Kept) (table inputs begins ends places : List ℕ)
-    (turn : TaskTurn) : Type 0 where
-  pub scene : Scene s j (on-rows base rows) (rows-of own) table inputs begins ends turn
-  pub number-is : turn .job ≡ j .number
+pub record Keeping (s : Setup) (j : Job) (base : ℕ) (rows new : List Row) (kept : Kept) (table inputs begins ends own : List ℕ) (turn : TaskTurn) : Type 0 where
+  pub scene : Scene s j (on-rows base rows) new table inputs begins ends turn
   pub held-is : turn .held ≡ length rows
-  pub used-is : turn .used ≡ turn .held + own .count
+  pub used-is : turn .used ≡ turn .held + length new
   pub held-few : turn .held ≤ row-limit
   pub there : Between 1 (s .table .machines) (kept .machine)
-  pub trial : IsTrial s j (on-rows base rows) (rows-of own) (turn .t + 1) (kept .machine) (kept .best)
-  pub line : TimelineOf (rows ++ rows-of own) begins ends places
-  pub in-range :
-      (row : Row) → List·Memᴰ row (trial-rows (try s (on-rows base rows) j (rows-of own) (turn .t + 1) (kept .machine))) → RowInRange s row
-  pub apart : NoSharedTick (rows ++ (rows-of own ++ trial-rows (try s (on-rows base rows) j (rows-of own) (turn .t + 1) (kept .machine))))
-  pub fits : own .count + length (trial-rows (try s (on-rows base rows) j (rows-of own) (turn .t + 1) (kept .machine))) ≤ most-own
+  pub trial : IsTrial s j (on-rows base rows) new (turn .t + 1) (kept .machine) (kept .best)
+  pub spans : SpansOf (rows ++ new) begins ends
+  pub own-is : OwnRows rows new own
+  pub in-range : (row : Row) → List·Memᴰ row (trial-rows (try s (on-rows base rows) j new (turn .t + 1) (kept .machine))) → RowInRange s row
+  pub apart : NoSharedTick (rows ++ (new ++ trial-rows (try s (on-rows base rows) j new (turn .t + 1) (kept .machine))))
+  pub fits : length new + length (trial-rows (try s (on-rows base rows) j new (turn .t + 1) (kept .machine))) ≤ most-own
 
-pub record AskAppend (own : Placement) (kept : Kept) (table inputs begins ends places : List ℕ) (turn : TaskTurn) : Type 0 where
+pub record AskAppend (kept : Kept) (table inputs begins ends own : List ℕ) (turn : TaskTurn) : Type 0 where
   pub setup : Setup
   pub job : Job
   pub base : ℕ
   pub rows : List Row
-  pub keeping : Keeping setup job base rows own kept table inputs begins ends places turn
-  pub widths : Widths begins ends places
-  pub long : length (own .rows) ≡ most-own
+  pub new : List Row
+  pub keeping : Keeping setup job base rows new kept table inputs begins ends own turn
   pub bounds : AttemptBounds (kept .best)
-  pub cost-at-most : own .cost ≤ most-own * ((most-messages + 1) * largest-cost)
 
-pub record AppendedIs (own : Placement) (kept : Kept) (table inputs begins ends places : List ℕ) (turn : TaskTurn) (begins′ ends′ places′ : List ℕ)
-    (r : Placement) : Type 0 where
-  pub not-late : r .late ≡ 0
-  pub long : length (r .rows) ≡ most-own
-  pub widths : Widths begins′ ends′ places′
+pub record Appended (s : Setup) (j : Job) (base : ℕ) (rows new : List Row) (kept : Kept) (turn : TaskTurn) (begins ends own : List ℕ) (used : ℕ) : Type 0 where
+  pub used-is : used ≡ turn .used + length (trial-rows (try s (on-rows base rows) j new (turn .t + 1) (kept .machine)))
+  pub spans : SpansOf (rows ++ (new ++ trial-rows (try s (on-rows base rows) j new (turn .t + 1) (kept .machine)))) begins ends
+  pub own-is : OwnRows rows (new ++ trial-rows (try s (on-rows base rows) j new (turn .t + 1) (kept .machine))) own
+
+pub record AppendedIs (kept : Kept) (table inputs begins ends own : List ℕ) (turn : TaskTurn) (begins′ ends′ own′ : List ℕ) (r : ℕ) : Type 0 where
+  pub begins-long : length begins′ ≡ length begins
+  pub ends-long : length ends′ ≡ length ends
+  pub own-long : length own′ ≡ owned
   pub is :
-      (s : Setup) (j : Job) (base : ℕ) (rows : List Row) → Keeping s j base rows own kept table inputs begins ends places turn →
-      (rows-of r ≡ rows-of own ++ trial-rows (try s (on-rows base rows) j (rows-of own) (turn .t + 1) (kept .machine)))
-      × TimelineOf (rows ++ rows-of r) begins′ ends′ places′
-  pub cost-is : r .cost ≡ own .cost + kept .best .cost
-  pub count-at-most : r .count ≤ most-own
-  pub past : PastSame begins ends places (turn .held + r .count) begins′ ends′ places′
+      (s : Setup) (j : Job) (base : ℕ) (rows new : List Row) → Keeping s j base rows new kept table inputs begins ends own turn →
+      Appended s j base rows new kept turn begins′ ends′ own′ r

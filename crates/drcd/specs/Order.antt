@@ -21,7 +21,7 @@ pub record WaitsIs (row : List ℕ) (layout : Layout) (machines : List ℕ) (wai
       (s : Setup) (j : Job) (new : List Row) (finishes : List ℕ) → JobIs s j row layout → StandsFor new machines finishes →
       (t : ℕ) → t < j .taskcount → getD waits t false ≡ not (all-of (λ msg. placed new (msg .sender)) (into j (t + 1)))
 
-abbrev pub NextIs : (row : List ℕ) → Layout → (machines : List ℕ) → ℕ → Type 0
-NextIs row layout machines r =
+abbrev pub NextReadyIs : (row : List ℕ) → Layout → (machines : List ℕ) → ℕ → Type 0
+NextReadyIs row layout machines r =
     (s : Setup) (j : Job) (new : List Row) (finishes : List ℕ) → JobIs s j row layout → StandsFor new machines finishes →
     named r ≡ next-task j new

@@ -104,8 +104,8 @@ abbrev pub no-message : Message
 no-message = record { sender = 0; receiver = 0; volume = 0 }
 
 module _ (s : Setup) (j : Job) (new : List Row) (m : ℕ) (msgs : List Message) (starts : List ℕ) where
-  abbrev pub row-at : ℕ → List Row
-  row-at i =
+  abbrev pub message-row-at : ℕ → List Row
+  message-row-at i =
       let msg = getD msgs i no-message in
       let a = machine-for new (msg .sender) in
       cons-if (crosses msg a m) (message-booking s j msg a m (getD starts i 0)) []
@@ -113,7 +113,7 @@ module _ (s : Setup) (j : Job) (new : List Row) (m : ℕ) (msgs : List Message) 
   -- those of the first so many
   unfoldable pub rows-upto : ℕ → List Row
   rows-upto zero = []
-  rows-upto (suc i) = rows-upto i ++ row-at i
+  rows-upto (suc i) = rows-upto i ++ message-row-at i
 
 pub record TriedIs (table inputs begins ends : List ℕ) (turn : TaskTurn) (m : ℕ) (r : Arrivals) : Type 0 where
   pub long : length (r .starts) ≡ most-messages

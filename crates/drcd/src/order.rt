@@ -6,7 +6,7 @@ use figures::jobs::sender_of;
 use rules::TASKS;
 use texts::job::FIGURES;
 ghost use Rattle.drcd.specs.Given.{SomeJob};
-ghost use Rattle.drcd.specs.Order.{WaitsIs, NextIs};
+ghost use Rattle.drcd.specs.Order.{WaitsIs, NextReadyIs};
 
 // The tasks that wait: some message into them has a sender that is not placed.
 fn waiting<'a>(row: &'a [u64; FIGURES], layout: Layout, machines: &'a [u64; TASKS]) -> [bool; TASKS]
@@ -29,7 +29,7 @@ fn waiting<'a>(row: &'a [u64; FIGURES], layout: Layout, machines: &'a [u64; TASK
 // Of the tasks that are ready the one with the earliest deadline, then the lowest number; 0 if none is.
 pub fn next_ready<'a>(row: &'a [u64; FIGURES], layout: Layout, machines: &'a [u64; TASKS]) -> u64
     requires { ⌜ SomeJob (now row) layout ⌝ }
-    ensures { λ r. ⌜ NextIs (now (row .entry)) layout (now (machines .entry)) r ⌝ }
+    ensures { λ r. ⌜ NextReadyIs (now (row .entry)) layout (now (machines .entry)) r ⌝ }
 {
     let waits = waiting(row, layout, machines);
     let mut best: u64 = 0;

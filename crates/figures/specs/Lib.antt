@@ -3,3 +3,4 @@ pub mod Rows
 pub mod Layouts
 pub mod Tables
 pub mod Lending
+pub mod Reading

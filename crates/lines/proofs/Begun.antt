@@ -9,7 +9,7 @@ use lib.Dec.{eqb}
 use lib.ListN.{length, getD, drop, drop-of-length-le}
 use lib.Seq.{drop-cons}
 use borrow.Author.Tests.{eq-eqb, ne-eqb, eqb-true}
-use Rattle.rules.proofs.Sequences.{clash, and-true}
+use Rattle.rules.proofs.Sequences.{clash, and-true, by-test}
 use Rattle.lines.specs.Lines.{begins}
 
 -- the comparison has come to the byte i
@@ -27,10 +27,6 @@ module _ {key text : List ℕ} {i : ℕ} (w : Compared key text i) where
   key-ended k = sym (w .left ∙ rw (drop-of-length-le key k) refl)
 
   module _ (k : i < length key) where
-    pub text-ended : length text ≤ i → false ≡ begins key text
-    unfolding begins
-    text-ended t = sym (w .left ∙ rw (drop-cons key i 0 k, drop-of-length-le text t) refl)
-
     module _ (t : i < length text) where
       at-byte : begins key text ≡ eqb (getD key i 0) (getD text i 0) && begins (drop (suc i) key) (drop (suc i) text)
       unfolding begins
@@ -46,6 +42,13 @@ module _ {key text : List ℕ} {i : ℕ} (w : Compared key text i) where
 
       pub differs : (getD text i 0 ≡ getD key i 0 → ⊥) → false ≡ begins key text
       differs n = sym (at-byte ∙ rw (ne-eqb (getD key i 0) (getD text i 0) (λ e. n (sym e))) refl)
+
+-- a text that is shorter than the key does not begin with it
+pub too-short : (key text : List ℕ) → length text < length key → false ≡ begins key text
+unfolding begins
+too-short [] text short = absurd (omega arith)
+too-short (k ∷ ks) [] short = refl
+too-short (k ∷ ks) (b ∷ bs) short = by-test (eqb k b) (λ e. rw e (too-short ks bs (omega arith))) (λ e. rw e refl)
 
 -- a text that begins with a key is the key and what follows it
 pub begun : (key text : List ℕ) → begins key text ≡ true → text ≡ key ++ drop (length key) text

@@ -70,11 +70,11 @@ pub struct Digits {
 pub fn begins_with(text: &[u8], key: &[u8]) -> bool
     ensures { λ r. ⌜ r ≡ begins (now (key .entry)) (now (text .entry)) ⌝ }
 {
+    if text.len() < key.len() {
+        return false;
+    }
     let mut i = 0;
     while i < key.len() {
-        if text.len() <= i {
-            return false;
-        }
         if text[i] != key[i] {
             return false;
         }

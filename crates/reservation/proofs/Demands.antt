@@ -11,7 +11,6 @@ use Rattle.reservation.specs.declared.Reply.{Reply}
 use Rattle.reservation.specs.Registers.{state-of, register-of, Valid}
 use Rattle.reservation.specs.Calls.{Steps, Submits}
 use Rattle.reservation.specs.Demands.{Demand1-of-code, Demand2-of-code}
-use Rattle.reservation.proofs.Values.{register-same}
 
 pub demand-1-of-code : {r : Register} {c : Call} {result : Reply} → Valid r → Steps r c result → Demand1-of-code r c result
 demand-1-of-code {r} {c} {result} valid steps = record {
@@ -19,7 +18,7 @@ demand-1-of-code {r} {c} {result} valid steps = record {
   untouched =
       λ ne.
       let still = step-still (r .setup) (state-of r) c (ap accepted (sym (steps .answer-is)) ∙ ne-eqb (result .answer .number) 0 ne) in
-      steps .left-is ∙ (ap (register-of (r .setup)) still ∙ register-same r valid);
+      steps .left-is ∙ (ap (register-of (r .setup)) still ∙ sym (valid .kept));
 }
 
 pub demand-2-of-code : {r : Register} {j : Job} {result : Reply} → Submits r j result → Demand2-of-code r j result

@@ -1,11 +1,12 @@
 -- Laws that the functions' proofs cite.
-pub mod Rowwise
-pub mod Sighted
-pub mod Answers
 pub mod Values
-pub mod Admission
-pub mod Removed
-pub mod Scans
+pub mod Slotted
+pub mod Joined
+pub mod Staying
+pub mod Leaving
 pub mod Stepped
+pub mod Applied
+pub mod Counted
+pub mod Sighted
 pub mod Demands
 pub mod Demand3

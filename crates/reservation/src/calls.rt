@@ -1,18 +1,13 @@
 // One call of any kind, applied to a register.
 use crate::Register;
 use crate::Reply;
+use admission::calls::Kind;
 use rules::Job;
 ghost use Rattle.reservation.specs.Registers.{Valid};
 ghost use Rattle.reservation.specs.Calls.{Steps};
 ghost use Rattle.reservation.specs.Kinds.{call-of};
 
-// The kind of a call, with its number or tick. A submission's job stands beside it, since an enum holds no arrays.
-pub enum Kind {
-    Submit,
-    Withdraw(u64),
-    Advance(u64),
-}
-
+// A submission's job stands beside the kind, since an enum holds no arrays.
 pub struct Call {
     pub kind: Kind,
     pub job: Job,

@@ -1,11 +1,10 @@
-// The register: booked rows, a clock and a total, changed by calls alone.
-mod advance;
+// The register: booked rows, a clock and a total, changed by calls alone. A call is made over the timetable, lent as columns (`timetable`, `admission`); then a
+// function here makes the register that is left.
 pub mod calls;
-mod held;
 mod removal;
+mod rows;
 mod sight;
 mod submission;
-mod withdrawal;
 
 use rules::Answer;
 use rules::HORIZON;
@@ -16,38 +15,31 @@ use rules::Setup;
 use rules::TASKS;
 use rules::rows::blank;
 use rules::tables::default_setup;
+use timeline::SPANS;
+use timeline::notes::NOTES;
+use timetable::NEVER;
+use timetable::Status;
 ghost use mathlib.Core.Path.{_≡_};
-ghost use lib.ListN.{getD};
 ghost use Rattle.rules.specs.Words.{fresh, default-setup};
-ghost use Rattle.rules.specs.Placing.{no-row};
-ghost use Rattle.rules.specs.Refusals.{refusal as refusal-of};
 ghost use Rattle.reservation.specs.Registers.{Valid, register-of};
 
-// A register is what it was opened with, its clock, its rows and its total. The slots past the count are blank, so that equal registers are equal values.
+// A register is what it was opened with, its clock, its rows and its total. The soonest end and the columns are kept so that a call need not look through the
+// rows: all spans on one timeline, and for each the number of its job and what is noted of it. Each is a definition over the rows, and what is not used is
+// blank, so that equal registers are equal values.
 pub struct Register {
     setup: Setup,
-    clock: u64,
-    count: usize,
+    status: Status,
     rows: [Row; ROWS],
-    total: u64,
+    begins: [u64; SPANS],
+    ends: [u64; SPANS],
+    jobs: [u16; SPANS],
+    notes: [u64; NOTES],
 }
 
 // The answer to a call, and the register that it leaves. A withdrawal and a clock move answer a number alone: the other figures are 0.
 pub struct Reply {
     pub answer: Answer,
     pub register: Register,
-}
-
-// A refusal by its number, and the task that it names; number 0 is an acceptance.
-pub fn refusal(number: u64, task: u64) -> Answer
-    ensures { λ r. ⌜ r ≡ refusal-of number task ⌝ }
-{
-    Answer {
-        number: number,
-        task: task,
-        cost: 0,
-        rows: 0,
-    }
 }
 
 impl Register {
@@ -64,34 +56,44 @@ impl Register {
         ensures { λ r. ⌜ r ≡ register-of default-setup fresh ⌝ }
         ensures { λ r. ⌜ Valid r ⌝ }
     {
-        let rows = [blank(); Self::ROWS];
         let setup = default_setup();
+        let rows = [blank(); Self::ROWS];
         Self {
             setup: setup,
-            clock: 0,
-            count: 0,
+            status: Status {
+                clock: 0,
+                count: 0,
+                total: 0,
+                soonest: NEVER,
+            },
             rows: rows,
-            total: 0,
+            begins: [0; SPANS],
+            ends: [0; SPANS],
+            jobs: [0; SPANS],
+            notes: [0; NOTES],
         }
     }
 
     pub fn clock(self) -> u64
-        ensures { λ r. ⌜ r ≡ self .clock ⌝ }
+        ensures { λ r. ⌜ r ≡ self .status .clock ⌝ }
     {
-        self.clock
+        let status = self.status;
+        status.clock
     }
 
     pub fn total(self) -> u64
-        ensures { λ r. ⌜ r ≡ self .total ⌝ }
+        ensures { λ r. ⌜ r ≡ self .status .total ⌝ }
     {
-        self.total
+        let status = self.status;
+        status.total
     }
 
     // How many rows are held.
     pub fn count(self) -> usize
-        ensures { λ r. ⌜ r ≡ self .count ⌝ }
+        ensures { λ r. ⌜ r ≡ self .status .count ⌝ }
     {
-        self.count
+        let status = self.status;
+        status.count
     }
 
     // The slots of all rows; those past the count are blank.
@@ -99,16 +101,5 @@ impl Register {
         ensures { λ r. ⌜ r ≡ self .rows ⌝ }
     {
         self.rows
-    }
-
-    // The row at a place, or the blank row past those held.
-    pub fn row(self, at: usize) -> Row
-        requires { ⌜ Valid self ⌝ }
-        ensures { λ r. ⌜ r ≡ getD (self .rows) at no-row ⌝ }
-    {
-        if ROWS <= at {
-            return blank();
-        }
-        self.rows[at]
     }
 }

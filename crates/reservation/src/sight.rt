@@ -1,41 +1,17 @@
 // Look: what stands on a machine at a tick. It changes nothing.
 use crate::Register;
-use rules::Holder;
-use rules::Row;
+use drcd::own::Entry;
+use drcd::own::row_of;
+use rules::HORIZON;
 use rules::Seen;
-ghost use mathlib.Core.Path.{_≡_};
-ghost use Rattle.rules.specs.Refusals.{running};
+use timeline::TICKS;
+use timeline::notes::note_at;
+use timeline::search::first_after;
 ghost use Rattle.reservation.specs.Registers.{Valid};
 ghost use Rattle.reservation.specs.Calls.{Looks};
 
-// The row is a task's on that machine, and holds the tick.
-fn runs_at(row: Row, machine: u64, tick: u64) -> bool
-    ensures { λ r. ⌜ r ≡ running machine tick row ⌝ }
-{
-    let holder = row.holder;
-    match holder {
-        Holder::TaskOn {
-            machine: on,
-            task: _,
-        } => {
-            if on != machine {
-                return false;
-            }
-            if tick < row.start {
-                return false;
-            }
-            tick < row.finish
-        }
-        Holder::MessageOn {
-            source: _,
-            target: _,
-            sender: _,
-            receiver: _,
-        } => false,
-    }
-}
-
 impl Register {
+    // The first span on the timeline that ends after the tick holds it, or none does.
     pub fn look(self, machine: u64, tick: u64) -> Seen
         requires { ⌜ Valid self ⌝ }
         ensures { λ r. ⌜ Looks self machine tick r ⌝ }
@@ -48,15 +24,29 @@ impl Register {
         if table.machines < machine {
             return Seen::NoMachine;
         }
-        let count = self.count;
-        let mut i: usize = 0;
-        while i < count {
-            let row = self.rows[i];
-            if runs_at(row, machine, tick) {
-                return Seen::Booked(row);
-            }
-            i += 1;
+        if HORIZON < tick {
+            return Seen::Idle;
         }
-        Seen::Idle
+        let place = machine * TICKS + tick;
+        let status = self.status;
+        let ends = self.ends;
+        let at = first_after(&ends, status.count, place);
+        if at == status.count {
+            return Seen::Idle;
+        }
+        let begin = self.begins[at];
+        if place < begin {
+            return Seen::Idle;
+        }
+        let notes = self.notes;
+        let note = note_at(&notes, at);
+        let entry = Entry {
+            at: 0,
+            begin: begin,
+            end: ends[at],
+            label: note.label,
+            cost: note.cost,
+        };
+        Seen::Booked(row_of(entry, self.jobs[at]))
     }
 }

@@ -202,7 +202,7 @@ module _ (s : Setup) (j : Job) (range : InRange s j) where
 -- The steps.
 
 -- a clock move that is not refused stays within the horizon
-advanced-in-range : (s : Setup) (st : State) (tick : ℕ) → step s st (advances tick) .answer .number ≡ 0 → tick ≤ horizon
+pub advanced-in-range : (s : Setup) (st : State) (tick : ℕ) → step s st (advances tick) .answer .number ≡ 0 → tick ≤ horizon
 unfolding advance-tests
 advanced-in-range s st tick e =
     ltb-false horizon tick (refuse-none (ltb horizon tick) (none-refuses (demand-1 s st (advances tick) .answered .passed .0 e) 12))

@@ -36,7 +36,7 @@ use Rattle.rules.proofs.Struck.{struck-state, struck-answers, step-stil
 
 module _ (s : Setup) (v : View) (j : Job) where
   -- every row that is found carries the job's number
-  carries : (row : Row) → List·Memᴰ row (found (placing s v j)) → row .job ≡ j .number
+  pub carries : (row : Row) → List·Memᴰ row (found (placing s v j)) → row .job ≡ j .number
   unfolding placing found
   carries = go (place s (ground-of v j) j) refl
     where

@@ -78,10 +78,6 @@ module _ {A : Type 0} where
   all-mem p {l = y ∷ ys} e (List·Memᴰ·head q) = ap p q ∙ and-true (p y) (all-of p ys) e .0
   all-mem p {l = y ∷ ys} e (List·Memᴰ·tail m) = all-mem p (and-true (p y) (all-of p ys) e .1) m
 
-  pub mem-all : (p : A → Bool) (l : List A) → ((x : A) → List·Memᴰ x l → p x ≡ true) → all-of p l ≡ true
-  mem-all p [] h = refl
-  mem-all p (x ∷ xs) h = and-both (p x) (all-of p xs) (h x (List·Memᴰ·head refl)) (mem-all p xs (λ y m. h y (List·Memᴰ·tail m)))
-
   pub any-append : (p : A → Bool) (a b : List A) → any-of p (a ++ b) ≡ any-of p a || any-of p b
   any-append p [] b = refl
   any-append p (x ∷ a) b = go (p x) (any-append p a b)
@@ -215,6 +211,11 @@ module _ {A : Type 0} where
   getD-mem [] i d h = absurd (omega arith)
   getD-mem (x ∷ xs) zero d h = List·Memᴰ·head refl
   getD-mem (x ∷ xs) (suc i) d h = List·Memᴰ·tail (getD-mem xs i d (omega arith))
+
+-- two functions that agree on every one of a list
+pub map-same : {A B : Type 0} (f g : A → B) (l : List A) → ((x : A) → List·Memᴰ x l → f x ≡ g x) → map f l ≡ map g l
+map-same f g [] h = refl
+map-same f g (x ∷ l) h = rw (h x (List·Memᴰ·head refl)) (ap (λ rest. g x ∷ rest) (map-same f g l (λ y m. h y (List·Memᴰ·tail m))))
 
 pub mem-map : {A B : Type 0} (f : A → B) {l : List A} {x : A} → List·Memᴰ x l → List·Memᴰ (f x) (map f l)
 mem-map f (List·Memᴰ·head e) = List·Memᴰ·head (ap f e)

@@ -18,6 +18,9 @@ pub const MESSAGES: usize = 32;
 // The most rows that a register holds.
 pub const ROWS: usize = 256;
 
+// The largest job number.
+pub const LAST_JOB: u64 = 65_535;
+
 // The last tick that a deadline or the clock may name.
 pub const HORIZON: u64 = 1_000_000_000;
 
@@ -48,23 +51,23 @@ pub struct Job {
 // What holds a row: a task on a machine, or a message on the link from one machine to another.
 pub enum Holder {
     TaskOn {
-        machine: u64,
-        task: u64,
+        machine: u8,
+        task: u8,
     },
     MessageOn {
-        source: u64,
-        target: u64,
-        sender: u64,
-        receiver: u64,
+        source: u8,
+        target: u8,
+        sender: u8,
+        receiver: u8,
     },
 }
 
-// A row: one booking. Its span holds its start and not its finish.
+// A row: one booking. Its span holds its start and not its finish. The fields are as narrow as their ranges, since a register goes by value.
 pub struct Row {
     pub holder: Holder,
-    pub job: u64,
-    pub start: u64,
-    pub finish: u64,
+    pub job: u16,
+    pub start: u32,
+    pub finish: u32,
     pub cost: u64,
 }
 

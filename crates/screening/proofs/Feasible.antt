@@ -19,7 +19,7 @@ use Rattle.rules.proofs.Sequences.{mem-numbers, numbers-mem}
 use Rattle.rules.proofs.Choice.{precedes-false, foremost-mem, foremost-first, foremost-empty}
 use Rattle.figures.specs.Rows.{DeadlineIs, RunIs}
 use Rattle.figures.specs.declared.jobs.Layout.{Layout}
-use Rattle.screening.specs.Screens.{WithJob, AskTask, AskInfeasible, InfeasibleIs, FirstIs}
+use Rattle.screening.specs.Screens.{WithJob, AskOneTask, AskInfeasible, InfeasibleIs, FirstIs}
 use Rattle.screening.proofs.Ranged.{at-task, NoneOf, none-more, none-of-all, some-found}
 
 -- The least non-zero run time decides for all of them.
@@ -94,7 +94,7 @@ run-at-most s j t m e listed more =
     ltb-false largest-time (run-time j (t + 1) (m + 1)) (any-none (λ k. ltb largest-time (run-time j (t + 1) k)) runs own)
 
 module _ {row : List ℕ} {layout : Layout} {t clock : ℕ} (ask : AskInfeasible row layout t clock) where
-  pub task-listed : AskTask row layout t
+  pub task-listed : AskOneTask row layout t
   task-listed =
       let laid = ask .ask .laid in
       record { some = record { job = ask .ask .job; laid = rw (← laid .machines-are) at laid }; listed = ask .listed }

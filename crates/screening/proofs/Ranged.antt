@@ -16,7 +16,7 @@ use Rattle.rules.proofs.Sequences.{or-left, or-right, any-append, any-mem, numb
 use Rattle.figures.specs.Rows.{RowOf, AskTaskFigure, AskRun, SchedulingIs, DeadlineIs, DispatchIs, RunIs}
 use Rattle.figures.specs.Layouts.{LaidOut}
 use Rattle.figures.specs.declared.jobs.Layout.{Layout}
-use Rattle.screening.specs.Screens.{WithJob, AskTask, TaskOutsideIs, OutOfRangeIs}
+use Rattle.screening.specs.Screens.{WithJob, AskOneTask, TaskOutsideIs, OutOfRangeIs}
 
 -- Ranges.
 
@@ -36,7 +36,7 @@ module _ {row : List ℕ} {layout : Layout} where
   row-here : {machines : ℕ} {j : Job} → LaidOut machines j row layout → RowOf (layout .machines) j row
   row-here laid = rw (laid .machines-are) (laid .row-is)
 
-  module _ {t : ℕ} (ask : AskTask row layout t) where
+  module _ {t : ℕ} (ask : AskOneTask row layout t) where
     pub task-asked : AskTaskFigure (layout .machines) t
     task-asked =
         let laid = ask .some .laid in
@@ -84,7 +84,7 @@ module _ {row : List ℕ} {layout : Layout} {test : Setup → Job → ℕ → Bo
 abbrev pub too-long : ℕ → Setup → Job → ℕ → Bool
 too-long t s j m = ltb largest-time (run-time j (t + 1) m)
 
-module _ {row : List ℕ} {layout : Layout} {t : ℕ} (ask : AskTask row layout t) where
+module _ {row : List ℕ} {layout : Layout} {t : ℕ} (ask : AskOneTask row layout t) where
   pub deadline-outside : {r : ℕ} → DeadlineIs row (layout .machines) t r → outside 1 horizon r ≡ true → TaskOutsideIs row layout t true
   unfolding task-out-of-range
   deadline-outside known e s j laid = rw (← at-task ask known s j laid, e) refl

@@ -21,7 +21,7 @@ pub record SomeLayout (row : List ℕ) (layout : Layout) : Type 0 where
 abbrev pub WithJob : (row : List ℕ) → Layout → (Setup → Job → Type 0) → Type 0
 WithJob row layout says = (s : Setup) (j : Job) → LaidOut (s .table .machines) j row layout → says s j
 
-pub record AskTask (row : List ℕ) (layout : Layout) (t : ℕ) : Type 0 where
+pub record AskOneTask (row : List ℕ) (layout : Layout) (t : ℕ) : Type 0 where
   pub some : SomeLayout row layout
   pub listed : t < layout .tasks
 
@@ -47,7 +47,7 @@ ScreenedIs row layout r = WithJob row layout (λ s j. Screens s j r)
 
 -- Feasibility, of a job whose figures are in range.
 
-pub record AskFirst (row : List ℕ) (layout : Layout) (clock : ℕ) : Type 0 where
+pub record AskInfeasibles (row : List ℕ) (layout : Layout) (clock : ℕ) : Type 0 where
   pub setup : Setup
   pub job : Job
   pub laid : LaidOut (setup .table .machines) job row layout
@@ -55,7 +55,7 @@ pub record AskFirst (row : List ℕ) (layout : Layout) (clock : ℕ) : Type 0 wh
   pub clock-at-most : clock ≤ horizon
 
 pub record AskInfeasible (row : List ℕ) (layout : Layout) (t clock : ℕ) : Type 0 where
-  pub ask : AskFirst row layout clock
+  pub ask : AskInfeasibles row layout clock
   pub listed : t < layout .tasks
 
 abbrev pub InfeasibleIs : (row : List ℕ) → Layout → (t clock : ℕ) → Bool → Type 0

@@ -10,7 +10,7 @@ use messages::bad_messages;
 use ranges::number_outside;
 use ranges::out_of_range;
 use texts::job::FIGURES;
-ghost use Rattle.screening.specs.Screens.{SomeLayout, ScreenedIs, AskInfeasible, InfeasibleIs, AskFirst, FirstIs};
+ghost use Rattle.screening.specs.Screens.{SomeLayout, ScreenedIs, AskInfeasible, InfeasibleIs, AskInfeasibles, FirstIs};
 
 // The first of refusals 1 to 4, which read the job and the count of machines alone; 0 if none applies.
 pub fn screened(row: &[u64; FIGURES], layout: Layout) -> u64
@@ -54,7 +54,7 @@ fn infeasible(row: &[u64; FIGURES], layout: Layout, t: usize, clock: u64) -> boo
 
 // The lowest infeasible task, 0 if there is none.
 pub fn first_infeasible(row: &[u64; FIGURES], layout: Layout, clock: u64) -> u64
-    requires { ⌜ AskFirst (now row) layout clock ⌝ }
+    requires { ⌜ AskInfeasibles (now row) layout clock ⌝ }
     ensures { λ r. ⌜ FirstIs (now (row .entry)) layout clock r ⌝ }
 {
     let mut t: usize = 0;

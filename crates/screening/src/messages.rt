@@ -10,6 +10,9 @@ ghost use Rattle.rules.specs.Sequences.{precedes};
 ghost use Rattle.rules.specs.Refusals.{message-order};
 ghost use Rattle.screening.specs.Screens.{SomeLayout, MessageOutsideIs, BadMessagesIs};
 
+// The largest volume.
+const LARGEST: u64 = 1_000;
+
 // An end that is no task of a job with so many, a sender not below its receiver, or too large a volume.
 fn message_outside(tasks: u64, msg: Message) -> bool
     ensures { λ r. ⌜ MessageOutsideIs tasks msg r ⌝ }
@@ -29,7 +32,7 @@ fn message_outside(tasks: u64, msg: Message) -> bool
     if msg.receiver <= msg.sender {
         return true;
     }
-    1_000 < msg.volume
+    LARGEST < msg.volume
 }
 
 // One message stands before another: by receiver, then by sender.

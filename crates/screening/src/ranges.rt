@@ -5,11 +5,12 @@ use figures::jobs::dispatch_of;
 use figures::jobs::run_of;
 use figures::jobs::scheduling_of;
 use rules::HORIZON;
+use rules::LAST_JOB;
 use texts::job::FIGURES;
 ghost use mathlib.Core.Path.{_≡_};
 ghost use Rattle.rules.specs.Words.{largest-number};
 ghost use Rattle.rules.specs.Refusals.{outside};
-ghost use Rattle.screening.specs.Screens.{SomeLayout, AskTask, TaskOutsideIs, OutOfRangeIs};
+ghost use Rattle.screening.specs.Screens.{SomeLayout, AskOneTask, TaskOutsideIs, OutOfRangeIs};
 
 // The largest scheduling, dispatch or run time.
 const LONGEST: u64 = 1_000_000;
@@ -20,12 +21,12 @@ pub fn number_outside(number: u64) -> bool
     if number < 1 {
         return true;
     }
-    65_535 < number
+    LAST_JOB < number
 }
 
 // A deadline, a dispatch time or a run time of the task at an index is out of range.
 fn task_outside(row: &[u64; FIGURES], layout: Layout, t: usize) -> bool
-    requires { ⌜ AskTask (now row) layout t ⌝ }
+    requires { ⌜ AskOneTask (now row) layout t ⌝ }
     ensures { λ r. ⌜ TaskOutsideIs (now (row .entry)) layout t r ⌝ }
 {
     let deadline = deadline_of(row, layout.machines, t);

@@ -6,80 +6,89 @@ use Prim.Native.Nat.{ℕ, _+_, _-_, _≤_, _<_}
 use native.Mathlib.Omega.{arith}
 use lib.ListN.{length, take, drop, length-drop}
 use borrow.Author.Tests.{le-leb, lt-leb}
+use Rattle.rules.specs.declared.Job.{Job}
 use Rattle.rules.specs.Refusals.{Call, submits, withdraws, advances}
-use Rattle.reservation.specs.declared.calls.Kind.{Kind}
-use Rattle.reservation.specs.Kinds.{kind-of}
+use Rattle.lines.specs.declared.line.DueLine.{DueLine}
 use Rattle.lines.specs.declared.line.Reading.{Reading}
 use Rattle.lines.specs.declared.line.Reading.the-variants.{Read, Refused}
-use Rattle.texts.specs.declared.job.JobRead.{JobRead}
 use Rattle.lines.specs.Lines.{Parsed, parsed, refused, Due, any-figure, begins, line}
-use Rattle.texts.specs.Forms.{read}
-use Rattle.texts.specs.JobText.{job-form, as-job, job-text}
+use Rattle.lines.specs.DueLines.{due-of}
+use Rattle.lines.specs.Parts.{AskLine}
+use Rattle.texts.specs.JobText.{job-text}
+use Rattle.texts.specs.Reader.{default-machines}
+use Rattle.texts.specs.Rows.{most-figures}
 use Rattle.lines.specs.Readings.{reading-number, reading-said, ReadingIs}
-use Rattle.texts.specs.Reader.{with-count, Reads}
 use Rattle.lines.proofs.Begun.{key-fits}
 use Rattle.lines.proofs.Lined.{part}
 use Rattle.texts.proofs.Reading.{said-read, said-refused}
-use Rattle.texts.proofs.Reached.{line-reached, job-reached, reads-parsed}
-use Rattle.script.specs.declared.acts.ActRead.the-variants.{Called}
-use Rattle.script.specs.declared.acts.NextAct.{NextAct}
+use Rattle.texts.proofs.Reached.{line-reached, job-reached}
+use Rattle.figures.specs.Rows.{RowOf}
+use Rattle.figures.specs.Reading.{JobRowRead}
+use Rattle.admission.specs.declared.calls.Kind.{Kind}
+use Rattle.admission.specs.declared.calls.Kind.the-variants.{Submit}
+use Rattle.admission.specs.Called.{AsksFor}
 use Rattle.script.specs.Keys.{job-key, tick-key}
-use Rattle.script.specs.Acts.{input-ends, call, unread, as-act, number-act, act, submit-line, withdraw-line, clock-line}
-use Rattle.script.specs.Parts.{act-read, act-said}
-
--- What an answer of the code says.
-
-pub said-call : (r : NextAct) (next : ℕ) (kind : Kind) → r .read ≡ Called next → r .call .kind ≡ kind → act-said r ≡ call (kind-of kind (r .call .job)) next
-said-call r next kind e k = ap (λ t. act-read t (r .call)) e ∙ ap (λ x. call (kind-of x (r .call .job)) next) k
+use Rattle.script.specs.declared.acts.ActRead.{ActRead}
+use Rattle.script.specs.declared.acts.ActRead.the-variants.{Called, Unread}
+use Rattle.script.specs.Parts.{ActSays, NumberActIs, ActIs}
+use Rattle.script.specs.Acts.{Act, input-ends, call, unread, as-act, number-act, act, submit-line, withdraw-line, clock-line}
 
 -- the bytes from a place on, as the part of the text that is lent
 abbrev lent : (text : List ℕ) (from : ℕ) → List ℕ
 lent text from = take (length text - from) (drop from text)
 
--- A number or a tick, read of the part of the input from a place on.
-module _
-    (make : ℕ → Call) (key text : List ℕ) (from : ℕ) (due : Due) (is : due ≡ any-figure key) (r : Reading)
-    (reads : ReadingIs (line due (lent text from) 0) r) where
-  abbrev found : Parsed ℕ
-  found = line (any-figure key) (drop from text) 0
+-- a place past so many bytes of the part lies within the text
+part-within : (text : List ℕ) (from next : ℕ) → from ≤ length text → next ≤ length (drop from text) → from + next ≤ length text
+part-within text from next start within = omega (arith, length-drop from text)
 
-  said : r ≡ reading-said found
-  said = reads .answer-is ∙ ap (λ t. reading-said (line due t 0)) (part text from) ∙ ap (λ d. reading-said (line d (drop from text) 0)) is
+-- What the line with a key, read of the part of the input from a place on, is as an act of a kind.
+pub record NumberLine (make : ℕ → Call) (kind : ℕ → Kind) (key text : List ℕ) (from : ℕ) (r : Reading) : Type 0 where
+  pub called : (n next : ℕ) → r ≡ Read n next → NumberActIs make key text from (Called (from + next) (kind n))
+  pub within : (n next : ℕ) → r ≡ Read n next → from ≤ length text → from + next ≤ length text
+  pub refuses : (number place said : ℕ) → r ≡ Refused number place → said ≡ reading-number r → NumberActIs make key text from (Unread said)
 
-  number-parsed : (n next : ℕ) → r ≡ Read n next → found ≡ parsed n next
-  number-parsed n next e = said-read (sym e ∙ said)
+pub number-line :
+    (make : ℕ → Call) (kind : ℕ → Kind) → ((row : List ℕ) (n : ℕ) → AsksFor default-machines row (kind n) (make n)) →
+    (key text : List ℕ) (from : ℕ) {due : Due} → due ≡ any-figure key → {r : Reading} → ReadingIs (line due (lent text from) 0) r →
+    NumberLine make kind key text from r
+number-line make kind asks key text from {due} is {r} reads =
+    let found = line (any-figure key) (drop from text) 0 in
+    let said : r ≡ reading-said found =
+    reads .answer-is ∙ ap (λ t. reading-said (line due t 0)) (part text from) ∙ ap (λ d. reading-said (line d (drop from text) 0)) is
+    in
+    record {
+      called = λ n next e row. (make n, rw (said-read {p = found} (sym e ∙ said)) refl, asks row n);
+      within = λ n next e start.
+          part-within text from next start (line-reached (any-figure key) (drop from text) 0 n next (said-read (sym e ∙ said)) .within);
+      refuses = λ number place answer e same row. rw (said-refused {p = found} (sym e ∙ said), same, e) refl;
+    }
 
-  pub number-read : (n next : ℕ) → r ≡ Read n next → call (make n) (from + next) ≡ number-act make key text from
-  number-read n next e = rw (number-parsed n next e) refl
-
-  pub number-within : (n next : ℕ) → r ≡ Read n next → next ≤ length (drop from text)
-  number-within n next e = line-reached (any-figure key) (drop from text) 0 n next (number-parsed n next e) .within
-
-  pub number-unread : (number place : ℕ) → r ≡ Refused number place → unread (reading-number r) ≡ number-act make key text from
-  number-unread number place e = rw (said-refused {p = found} (sym e ∙ said), e) refl
+-- the line that is due may be asked of a part from its start on
+pub number-asked : (part : List ℕ) {due : DueLine} {key : List ℕ} → due-of due ≡ any-figure key → AskLine part 0 due
+number-asked part is = let digits = ap (λ (d : Due). d .digits) is in record { within = omega arith; digits = omega arith }
 
 -- A job, read of the part of the input from its first line on.
-module _ (machines : ℕ) (text : List ℕ) (from : ℕ) (r : JobRead) (lent-reads : Reads machines (lent text from) r) where
-  reads : Reads machines (drop from text) r
-  reads = subst (λ t. Reads machines t r) (part text from) lent-reads
+module _ (machines : ℕ) (text : List ℕ) (from : ℕ) (row : List ℕ) (r : Reading) (reads : JobRowRead machines (lent text from) row r) where
+  abbrev job-found : Parsed Job
+  job-found = job-text machines (drop from text)
 
-  job-parsed : (n next : ℕ) → r .reading ≡ Read n next → job-text machines (drop from text) ≡ parsed (r .job) next
-  job-parsed n next e = reads-parsed machines (drop from text) r reads e
+  job-parsed : (n next : ℕ) → r ≡ Read n next → (j : Job) × (job-found ≡ parsed j next) × RowOf machines j row
+  job-parsed n next e = let read = reads .job n next e in (read .0, ap (job-text machines) (sym (part text from)) ∙ read .1, read .2)
 
-  pub job-read : (n next : ℕ) → r .reading ≡ Read n next → call (submits (r .job)) (from + next) ≡ as-act submits from (job-text machines (drop from text))
-  job-read n next e = rw (job-parsed n next e) refl
+  pub job-read :
+      (n next : ℕ) → r ≡ Read n next →
+      (c : Call) × (as-act submits from job-found ≡ call c (from + next)) × AsksFor machines row Submit c
+  job-read n next e = let read = job-parsed n next e in (submits (read .0), rw (read .1) refl, (read .0, refl, read .2))
 
-  pub job-read-within : (n next : ℕ) → r .reading ≡ Read n next → next ≤ length (drop from text)
-  job-read-within n next e = job-reached machines (drop from text) (r .job) next (job-parsed n next e) .within
+  pub job-read-within : (n next : ℕ) → r ≡ Read n next → from ≤ length text → from + next ≤ length text
+  job-read-within n next e start =
+      let read = job-parsed n next e in
+      part-within text from next start (job-reached machines (drop from text) (read .0) next (read .1) .within)
 
-  pub job-unread :
-      (number place : ℕ) → r .reading ≡ Refused number place → unread (reading-number (r .reading)) ≡ as-act submits from (job-text machines (drop from text))
-  unfolding job-text
-  job-unread number place e = rw e (go (read (job-form machines) (drop from text) 0) (reads .reading-is .answer-is))
-    where
-      go : (p : Parsed (List ℕ)) → r .reading ≡ reading-said (with-count p) → unread number ≡ as-act submits from (as-job machines p)
-      go (parsed ns last) q = absurd (let o : Refused number place ≡ Read (length ns) last = sym e ∙ q in let z : _≡_ {A = ℕ} 0 1 = cc in omega arith)
-      go (refused k l) q = let o : Refused number place ≡ Refused k l = sym e ∙ q in cc
+  pub job-unread : (number place : ℕ) → r ≡ Refused number place → as-act submits from job-found ≡ unread (reading-number r)
+  job-unread number place e =
+      let is : job-found ≡ refused number place = ap (job-text machines) (sym (part text from)) ∙ reads .refusal number place e in
+      rw (is, e) refl
 
 -- The act at a place, by its first bytes.
 module _ (machines : ℕ) (text : List ℕ) (at : ℕ) where
@@ -116,3 +125,9 @@ module _ (machines : ℕ) (text : List ℕ) (at : ℕ) where
 -- an act line lies within the text
 pub act-fits : (text : List ℕ) (at : ℕ) → at < length text → (key : List ℕ) → begins key (drop at text) ≡ true → at + length key ≤ length text
 act-fits text at more key e = let k = key-fits key (drop at text) e in let l = length-drop at text in omega arith
+
+-- what was answered to the act that stands at a place is what is answered to the place
+pub act-said :
+    {text : List ℕ} {at : ℕ} {row : List ℕ} {r : ActRead} {a : Act} →
+    act default-machines text at ≡ a → length row ≡ most-figures → ActSays a row r → ActIs text at row r
+act-said {row} {r} is long says = record { long = long; says = subst (λ b. ActSays b row r) (sym is) says }

@@ -10,13 +10,6 @@ use Rattle.lines.specs.Put.{Puts}
 use Rattle.script.specs.Parts.{field-room, PutsField, PutsAtMost}
 use Rattle.lines.proofs.Put.{puts-then, puts-long, put-none, field-length}
 
--- the field of the largest 64-bit number takes all of its room
-field-longest : (key : List ℕ) → length (field key (2 ^ 64 - 1)) ≡ field-room key
-unfolding decimal digits-within
-field-longest key =
-    let digits : length (decimal (2 ^ 64 - 1)) ≡ word-digits = refl in
-    omega (arith, field-length key (2 ^ 64 - 1), digits)
-
 -- bytes written from a place on, no more than so many
 pub record PutWithin (old : List ℕ) (at : ℕ) (bytes new : List ℕ) (next most : ℕ) : Type 0 where
   pub puts : Puts old at bytes new next

@@ -1,7 +1,8 @@
 -- Laws that the functions' proofs cite.
 pub mod Acted
 pub mod Fields
-pub mod Ordered
+pub mod TimelineOrder
+pub mod Held
 pub mod Listed
 pub mod Running
 pub mod Demand3

@@ -1,159 +1,123 @@
 -- A script run act by act: what has been printed, and what is still to come.
 use mathlib.Core.Path.{_≡_, refl, sym, ap, _∙_, subst}
+use mathlib.Core.Bool.{true}
 use mathlib.Core.List.{List, [], _∷_, _++_, append-assoc}
 use mathlib.Core.Option.{Option, none, some}
 use Prim.Native.Nat.{ℕ, zero, suc, _+_, _-_, _*_, _≤_, _<_}
 use native.Mathlib.Nat.{zero-add}
 use native.Mathlib.Omega.{arith}
-use lib.ListN.{length, take, drop, length-drop, length-append}
+use lib.ListN.{length, take, drop, replicate, length-drop, length-append}
 use lib.Seq.{take-at, drop-at}
 use borrow.Author.Tests.{lt-ltb, le-ltb}
-use Rattle.rules.specs.declared.Job.{Job}
+use Rattle.rules.specs.declared.Answer.{Answer}
 use Rattle.rules.specs.declared.Setup.{Setup}
 use Rattle.rules.specs.Words.{State, fresh, default-setup}
 use Rattle.rules.specs.Refusals.{Call, submits, withdraws, advances, step, answers, after}
-use Rattle.rules.proofs.Sequences.{by-test}
-use Rattle.reservation.specs.declared.Register.{Register}
-use Rattle.reservation.specs.declared.Reply.{Reply}
-use Rattle.reservation.specs.declared.calls.Kind.{Kind}
-use Rattle.reservation.specs.declared.calls.Kind.the-variants.{Submit, Withdraw, Advance}
-use Rattle.reservation.specs.Registers.{state-of, register-of, Valid}
-use Rattle.reservation.specs.Calls.{Steps}
-use Rattle.reservation.specs.Kinds.{kind-of}
-use Rattle.reservation.proofs.Values.{state-same}
-use Rattle.lines.specs.Lines.{Parsed, parsed, refused, Due, any-figure, begins, line}
-use Rattle.script.specs.Keys.{job-key, tick-key}
-use Rattle.texts.specs.JobText.{job-text, blank-job}
+use Rattle.rules.proofs.Sequences.{by-test, by-less}
+use Rattle.lines.specs.Lines.{Parsed, parsed, refused, any-figure, begins, line}
 use Rattle.lines.specs.Put.{Puts}
-use Rattle.texts.specs.Reader.{default-machines}
-use Rattle.texts.proofs.Reached.{least-line, line-reached, least-job, job-reached}
-use Rattle.rules.proofs.Sequences.{by-less}
 use Rattle.lines.proofs.Put.{puts-then}
-use Rattle.script.specs.Acts.{Act, input-ends, call, unread, as-act, act, submit-line, withdraw-line, clock-line}
+use Rattle.texts.specs.JobText.{job-text}
+use Rattle.texts.specs.Reader.{default-machines}
+use Rattle.texts.specs.Rows.{most-figures}
+use Rattle.texts.proofs.Reached.{Reached, least-line, line-reached, least-job, job-reached}
+use Rattle.figures.specs.Tables.{TableOf}
+use Rattle.timeline.specs.RowLine.{spans-room, note-size}
+use Rattle.drcd.specs.Own.{owned}
+use Rattle.timetable.specs.declared.Status.{Status}
+use Rattle.timetable.specs.declared.Outcome.{Outcome}
+use Rattle.admission.specs.declared.calls.Kind.{Kind}
+use Rattle.admission.specs.declared.calls.Kind.the-variants.{Submit, Withdraw, Advance}
+use Rattle.timetable.specs.Derived.{never}
+use Rattle.timetable.specs.Timetables.{TimetableOf, AskTimetable, Goes}
+use Rattle.admission.specs.Called.{AsksFor}
+use Rattle.admission.specs.Called.{Calling}
+use Rattle.script.specs.declared.acts.ActRead.the-variants.{Called}
+use Rattle.script.specs.Keys.{job-key, tick-key}
+use Rattle.script.specs.Acts.{Act, input-ends, call, unread, as-act, number-act, act, submit-line, withdraw-line, clock-line}
 use Rattle.script.specs.Replies.{reply, stop-line}
 use Rattle.script.specs.Listing.{listing}
 use Rattle.script.specs.Program.{Script, script-from, script, replies, printed, program, input-limit}
 use Rattle.script.specs.Laws.{Turns-enough}
 use Rattle.script.specs.Contract.{output-size, Runs}
-use Rattle.script.specs.Parts.{PutsAtMost, most-for, most-reply, most-answer, most-stop, most-listing}
+use Rattle.script.specs.Parts.{ActSays, most-answer, most-reply, most-for, reply-to, PutsReply, most-stop, most-listing, PutsListing, PutsRefusal}
+use Rattle.script.specs.Parts.{too-long-output, AskCalls}
 use Rattle.script.proofs.Fields.{PutWithin, within-none, within-then, within-next}
 use Rattle.script.proofs.Acted.{at-end, at-submit, at-withdraw, at-clock, no-act, act-fits}
+use Rattle.script.proofs.Held.{fresh-timetable}
+
+-- the most bytes of the reply to a call
+abbrev most-said : Call → ℕ
+most-said (submits j) = most-reply
+most-said (withdraws n) = most-answer
+most-said (advances tick) = most-answer
 
 -- How far an act reaches: past its place, within the text, and by half the bytes of its reply at the least.
-pub record Reaches (text : List ℕ) (at : ℕ) (kind : Kind) (next : ℕ) : Type 0 where
+pub record Reaches (text : List ℕ) (at : ℕ) (c : Call) (next : ℕ) : Type 0 where
   pub on : at < next
   pub within : next ≤ length text
-  pub enough : most-for kind + 2 * at ≤ 2 * next
+  pub enough : most-said c + 2 * at ≤ 2 * next
 
--- the calls are told apart
-submits-kind : (kind : Kind) (job j : Job) → submits j ≡ kind-of kind job → kind ≡ Submit
-submits-kind Submit job j e = refl
-submits-kind (Withdraw n) job j e = absurd (let z : _≡_ {A = ℕ} 0 1 = cc in omega arith)
-submits-kind (Advance t) job j e = absurd (let z : _≡_ {A = ℕ} 0 1 = cc in omega arith)
+-- by what was read after its act line
+read-reaches :
+    {A : Type 0} (make : A → Call) (text : List ℕ) (at size least : ℕ) (found : Parsed A) (c : Call) (next : ℕ) →
+    ((a : A) (last : ℕ) → found ≡ parsed a last → Reached (drop (at + size) text) 0 least last) → ((a : A) → most-said (make a) ≤ 2 * (size + least)) →
+    0 < size → at + size ≤ length text → as-act make (at + size) found ≡ call c next → Reaches text at c next
+read-reaches make text at size least (parsed a last) c next reached most longer fits e =
+    let there = reached a last refl in
+    let to : at + size + last ≡ next = cc in
+    let same : make a ≡ c = cc in
+    record {
+      on = omega arith;
+      within = omega (arith, length-drop (at + size) text, there .within);
+      enough = subst (λ x. most-said x + 2 * at ≤ 2 * next) same (omega (arith, most a, there .on));
+    }
+read-reaches make text at size least (refused number place) c next reached most longer fits e = absurd (let z : _≡_ {A = ℕ} 0 1 = cc in omega arith)
 
-number-most : (kind : Kind) (job : Job) (c : Call) → ((j : Job) → c ≡ submits j → ⊥) → c ≡ kind-of kind job → most-for kind ≡ most-answer
-number-most Submit job c n e = absurd (n job e)
-number-most (Withdraw m) job c n e = refl
-number-most (Advance t) job c n e = refl
+module _ (machines : ℕ) (text : List ℕ) (at : ℕ) (c : Call) (next : ℕ) (e : act machines text at ≡ call c next) (more : at < length text) where
+  -- a call that carries a number
+  number-reaches :
+      (make : ℕ → Call) (key first : List ℕ) → ((n : ℕ) → most-said (make n) ≤ 2 * (length first + least-line key)) → 0 < length first →
+      begins first (drop at text) ≡ true → act machines text at ≡ number-act make key text (at + length first) → Reaches text at c next
+  number-reaches make key first most longer begun is =
+      let from = drop (at + length first) text in
+      read-reaches make text at (length first) (least-line key) (line (any-figure key) from 0) c next (line-reached (any-figure key) from 0) most longer
+      (act-fits text at more first begun)
+      (sym is ∙ e)
 
--- a call that carries a number, from its line
-number-reaches :
-    (text : List ℕ) (at size : ℕ) (due : Due) (make : ℕ → Call) (kind : Kind) (job : Job) (next : ℕ) →
-    most-answer ≤ 2 * (size + least-line (due .key)) →
-    at + size ≤ length text → ((n : ℕ) (j : Job) → make n ≡ submits j → ⊥) →
-    as-act make (at + size) (line due (drop (at + size) text) 0) ≡ call (kind-of kind job) next → Reaches text at kind next
-number-reaches text at size due make kind job next enough f other e = go (line due (drop (at + size) text) 0) refl e
-  where
-    go : (p : Parsed ℕ) → line due (drop (at + size) text) 0 ≡ p → as-act make (at + size) p ≡ call (kind-of kind job) next → Reaches text at kind next
-    go (parsed n last) q h =
-        let w = line-reached due (drop (at + size) text) 0 n last q in
-        let l = length-drop (at + size) text in
-        let to : at + size + last ≡ next = cc in
-        let same : make n ≡ kind-of kind job = cc in
-        let most = number-most kind job (make n) (other n) same in
-        let low = w .on in
-        let high = w .within in
-        record { on = omega arith; within = omega arith; enough = omega arith }
-    go (refused number place) q h = absurd (let z : _≡_ {A = ℕ} 0 1 = cc in omega arith)
+  job-reaches : begins submit-line (drop at text) ≡ true → Reaches text at c next
+  job-reaches begun =
+      let from = drop (at + length submit-line) text in
+      read-reaches submits text at (length submit-line) least-job (job-text machines from) c next (job-reached machines from) (λ j. omega arith) (omega arith)
+      (act-fits text at more submit-line begun)
+      (sym (at-submit machines text at more begun) ∙ e)
 
--- a submission, from its job text
-job-reaches :
-    (machines : ℕ) (text : List ℕ) (at size : ℕ) (kind : Kind) (job : Job) (next : ℕ) → most-reply ≤ 2 * (size + least-job) → at + size ≤ length text →
-    as-act submits (at + size) (job-text machines (drop (at + size) text)) ≡ call (kind-of kind job) next → Reaches text at kind next
-job-reaches machines text at size kind job next enough f e = go (job-text machines (drop (at + size) text)) refl e
-  where
-    go : (p : Parsed Job) → job-text machines (drop (at + size) text) ≡ p → as-act submits (at + size) p ≡ call (kind-of kind job) next → Reaches text at kind next
-    go (parsed j last) q h =
-        let w = job-reached machines (drop (at + size) text) j last q in
-        let l = length-drop (at + size) text in
-        let to : at + size + last ≡ next = cc in
-        let same : submits j ≡ kind-of kind job = cc in
-        let most : most-for kind ≡ most-reply = ap most-for (submits-kind kind job j same) in
-        let low = w .on in
-        let high = w .within in
-        record { on = omega arith; within = omega arith; enough = omega arith }
-    go (refused number place) q h = absurd (let z : _≡_ {A = ℕ} 0 1 = cc in omega arith)
+  before-end : Reaches text at c next
+  before-end =
+      by-test
+      (begins submit-line (drop at text))
+      job-reaches
+      (λ x.
+      by-test
+      (begins withdraw-line (drop at text))
+      (λ y. number-reaches withdraws job-key withdraw-line (λ n. omega arith) (omega arith) y (at-withdraw machines text at more x y))
+      (λ y.
+      by-test
+      (begins clock-line (drop at text))
+      (λ z. number-reaches advances tick-key clock-line (λ n. omega arith) (omega arith) z (at-clock machines text at more x y z))
+      (λ z.
+      let none : unread 17 ≡ call c next = sym (no-act machines text at more x y z) ∙ e in
+      absurd (let clash : _≡_ {A = ℕ} 0 1 = cc in omega arith))))
 
-pub act-reaches :
-    (machines : ℕ) (text : List ℕ) (at : ℕ) (kind : Kind) (job : Job) (next : ℕ) → act machines text at ≡ call (kind-of kind job) next →
-    Reaches text at kind next
-act-reaches machines text at kind job next e =
+pub act-reaches : (machines : ℕ) (text : List ℕ) (at : ℕ) (c : Call) (next : ℕ) → act machines text at ≡ call c next → Reaches text at c next
+act-reaches machines text at c next e =
     by-less
     at
     (length text)
-    (λ more.
-    by-test
-    (begins submit-line (drop at text))
-    (λ a.
-    job-reaches
-    machines
-    text
-    at
-    (length submit-line)
-    kind
-    job
-    next
-    (omega arith)
-    (act-fits text at more submit-line a)
-    (sym (at-submit machines text at more a) ∙ e))
-    (λ a.
-    by-test
-    (begins withdraw-line (drop at text))
-    (λ b.
-    number-reaches
-    text
-    at
-    (length withdraw-line)
-    (any-figure job-key)
-    withdraws
-    kind
-    job
-    next
-    (omega arith)
-    (act-fits text at more withdraw-line b)
-    (λ n j q. let z : _≡_ {A = ℕ} 0 1 = cc in omega arith)
-    (sym (at-withdraw machines text at more a b) ∙ e))
-    (λ b.
-    by-test
-    (begins clock-line (drop at text))
-    (λ d.
-    number-reaches
-    text
-    at
-    (length clock-line)
-    (any-figure tick-key)
-    advances
-    kind
-    job
-    next
-    (omega arith)
-    (act-fits text at more clock-line d)
-    (λ n j q. let z : _≡_ {A = ℕ} 0 1 = cc in omega arith)
-    (sym (at-clock machines text at more a b d) ∙ e))
-    (λ d.
-    let n : unread 17 ≡ call (kind-of kind job) next = sym (no-act machines text at more a b d) ∙ e in
-    absurd (let z : _≡_ {A = ℕ} 0 1 = cc in omega arith)))))
-    (λ over. absurd (let n : input-ends ≡ call (kind-of kind job) next = sym (at-end machines text at over) ∙ e in let z : _≡_ {A = ℕ} 0 1 = cc in omega arith))
+    (before-end machines text at c next e)
+    (λ over.
+    let none : input-ends ≡ call c next = sym (at-end machines text at over) ∙ e in
+    absurd (let clash : _≡_ {A = ℕ} 0 1 = cc in omega arith))
 
 -- The calls from a place on: as many turns as there are bytes left are enough.
 
@@ -184,14 +148,6 @@ pub script-unread :
 unfolding script-from
 script-unread machines text at turns number e = rw (e, script-from) refl
 
-kind-for : (c : Call) → (kind : Kind) × (job : Job) × (c ≡ kind-of kind job)
-kind-for (submits j) = (Submit, j, refl)
-kind-for (withdraws n) = (Withdraw n, blank-job, refl)
-kind-for (advances t) = (Advance t, blank-job, refl)
-
-call-on : (machines : ℕ) (text : List ℕ) (at : ℕ) (c : Call) (next : ℕ) → act machines text at ≡ call c next → at < next
-call-on machines text at c next e = let k = kind-for c in act-reaches machines text at (k .0) (k .1) next (e ∙ ap (λ x. call x next) (k .2)) .on
-
 pub enough-turns :
     (machines : ℕ) (text : List ℕ) (at a b : ℕ) → length text ≤ at + a → length text ≤ at + b →
     script-from machines a text at ≡ script-from machines b text at
@@ -209,7 +165,7 @@ enough-turns machines text at (suc a) (suc b) h k = go (act machines text at) re
         script-from machines (suc a) text at ≡ script-from machines (suc b) text at
     go input-ends e below = script-ended machines text at a e ∙ sym (script-ended machines text at b e)
     go (call c next) e below =
-        let on = call-on machines text at c next e in
+        let on = act-reaches machines text at c next e .on in
         script-call machines text at a c next e ∙ ap (with-call c) (below next (omega arith) (omega arith)) ∙ sym (script-call machines text at b c next e)
     go (unread n) e below = script-unread machines text at a n e ∙ sym (script-unread machines text at b n e)
 
@@ -234,13 +190,30 @@ module _ (s : Setup) (st : State) where
   unfolding printed replies answers after
   printed-stop stop = refl
 
--- The loop: so many bytes are read, their answers are written, and the register stands for the state that they leave.
-pub record Running (text old : List ℕ) (r : Register) (at : ℕ) (new : List ℕ) (end : ℕ) : Type 0 where
+-- A kind of call has the replies of the call that it asks for.
+module _ (row : List ℕ) where
+  said-most : (kind : Kind) (c : Call) → AsksFor default-machines row kind c → most-for kind ≡ most-said c
+  said-most Submit c asks = sym (ap most-said (asks .1))
+  said-most (Withdraw number) c asks = sym (ap most-said asks)
+  said-most (Advance tick) c asks = sym (ap most-said asks)
+
+  said-reply : (kind : Kind) (c : Call) → AsksFor default-machines row kind c → (a : Answer) → reply-to kind a ≡ reply c a
+  unfolding reply
+  said-reply Submit c asks a = sym (ap (λ x. reply x a) (asks .1))
+  said-reply (Withdraw number) c asks a = sym (ap (λ x. reply x a) asks)
+  said-reply (Advance tick) c asks a = sym (ap (λ x. reply x a) asks)
+
+-- The loop: so many bytes are read, their answers are written, and the columns stand for the state that they leave.
+pub record Running
+    (text old row own begins ends jobs notes : List ℕ) (status : Status) (at : ℕ) (new : List ℕ) (end : ℕ) : Type 0 where
+  pub asked : AskCalls text old
+  pub row-long : length row ≡ most-figures
+  pub own-long : length own ≡ owned
+  pub state : State
+  pub timetable : TimetableOf default-setup state begins ends jobs notes status
   pub bytes : List ℕ
   pub within : PutWithin old 0 bytes new end (2 * at)
-  pub to-come : program default-setup text ≡ bytes ++ printed default-setup (state-of r) (script-from default-machines (length text - at) text at)
-  pub valid : Valid r
-  pub setup-is : r .setup ≡ default-setup
+  pub to-come : program default-setup text ≡ bytes ++ printed default-setup state (script-from default-machines (length text - at) text at)
   pub inside : at ≤ length text
 
 -- an input within the limit is read from its start on
@@ -248,97 +221,144 @@ within-limit : (text : List ℕ) → length text ≤ input-limit → script (def
 unfolding script default-setup
 within-limit text few = rw (le-ltb input-limit (length text) few) refl
 
-module _ (text old : List ℕ) (few : length text ≤ input-limit) (room : length old ≡ output-size) where
-  pub running-none : (r : Register) → r ≡ register-of default-setup fresh → Valid r → Running text old r 0 old 0
-  unfolding program
-  running-none r e valid =
-      let off : length text - 0 ≡ length text = omega arith in
-      record {
-        bytes = [];
-        within = within-none (omega arith);
-        to-come = rw (within-limit text few, off, e, state-same default-setup fresh) refl;
-        valid = valid;
-        setup-is = rw e refl;
-        inside = omega arith;
-      }
+-- the bytes written and those of the end are all
+whole :
+    {all old bytes new tail : List ℕ} {end most : ℕ} {new′ : List ℕ} {last : ℕ} → PutWithin old 0 bytes new end most → all ≡ bytes ++ tail →
+    Puts new end tail new′ last → Puts old 0 all new′ last
+whole {old = old} {new′ = new′} {last} w is p = subst (λ b. Puts old 0 b new′ last) (sym is) (puts-then (omega arith) (w .puts) p)
 
-  module _ (r : Register) (at : ℕ) (new : List ℕ) (end : ℕ) (w : Running text old r at new end) (more : at < length text) where
-    left-over : length text - at ≡ suc (length text - suc at)
-    left-over = omega arith
+pub running-none :
+    {text old row own : List ℕ} {status : Status} → AskCalls text old → length row ≡ most-figures → length own ≡ owned →
+    status ≡ record { clock = 0; count = 0; total = 0; soonest = never } →
+    Running text old row own (replicate spans-room 0) (replicate spans-room 0) (replicate spans-room 0) (replicate (spans-room * note-size) 0) status 0 old 0
+unfolding program
+running-none {text} asked row-long own-long is =
+    let off : length text - 0 ≡ length text = omega arith in
+    record {
+      asked = asked;
+      row-long = row-long;
+      own-long = own-long;
+      state = fresh;
+      timetable = fresh-timetable is;
+      bytes = [];
+      within = within-none (omega arith);
+      to-come = rw (within-limit text (asked .few), off) refl;
+      inside = omega arith;
+    }
 
-    pub running-more :
-        (kind : Kind) (job : Job) (next : ℕ) (result : Reply) (new′ : List ℕ) (last : ℕ) → act default-machines text at ≡ call (kind-of kind job) next →
-        Steps r (kind-of kind job) result → PutsAtMost new end (reply (kind-of kind job) (result .answer)) new′ last (most-for kind) →
-        Running text old (result .register) next new′ last
-    running-more kind job next result new′ last e steps p =
-        let c = kind-of kind job in
-        let reach = act-reaches default-machines text at kind job next e in
-        let on = reach .on in
-        let inside = reach .within in
-        let enough = reach .enough in
-        let setup = w .setup-is in
-        let answer : result .answer ≡ step default-setup (state-of r) c .answer = steps .answer-is ∙ rw setup refl in
-        let left : state-of (result .register) ≡ step default-setup (state-of r) c .left =
-        ap state-of (steps .left-is) ∙ state-same (r .setup) (step (r .setup) (state-of r) c .left) ∙ rw setup refl
-        in
-        let rest = script-from default-machines (length text - next) text next in
-        let turned : script-from default-machines (length text - at) text at ≡ with-call c rest =
-        ap (λ n. script-from default-machines n text at) left-over
-        ∙ script-call default-machines text at (length text - suc at) c next e
-        ∙ ap (with-call c) (enough-turns default-machines text next (length text - suc at) (length text - next) (omega arith) (omega arith))
-        in
-        let more-bytes = within-then (reply c (result .answer)) (most-for kind) (omega arith) (w .within) (p .puts) (p .short) in
-        record {
-          bytes = w .bytes ++ reply c (result .answer);
-          within = record { puts = more-bytes .puts; short = let s = more-bytes .short in omega arith; long = more-bytes .long };
-          to-come =
-              w .to-come
-              ∙ ap (λ x. w .bytes ++ printed default-setup (state-of r) x) turned
-              ∙ ap (λ x. w .bytes ++ x) (printed-call default-setup (state-of r) c rest)
-              ∙ ap (λ a. w .bytes ++ (reply c a ++ printed default-setup (step default-setup (state-of r) c .left) rest)) (sym answer)
-              ∙ ap (λ st. w .bytes ++ (reply c (result .answer) ++ printed default-setup st rest)) (sym left)
-              ∙ sym (append-assoc (w .bytes) (reply c (result .answer)) (printed default-setup (state-of (result .register)) rest));
-          valid = steps .valid;
-          setup-is = ap (λ (x : Register). x .setup) (steps .left-is) ∙ setup;
-          inside = inside;
-        }
-
-    -- there is room for a reply, and for the end
-    pub running-room : end + most-reply ≤ length new
-    running-room = let n = within-next (w .within) in let l = w .within .long in omega arith
-
-    pub running-stops :
-        (number : ℕ) (new′ : List ℕ) (last : ℕ) → act default-machines text at ≡ unread number →
-        Puts new end (stop-line (some number) ++ listing (state-of r)) new′ last → Puts old 0 (program default-setup text) new′ last
-    running-stops number new′ last e p =
-        let stop : script-from default-machines (length text - at) text at ≡ record { calls = []; stop = some number } =
-        ap (λ n. script-from default-machines n text at) left-over ∙ script-unread default-machines text at (length text - suc at) number e
-        in
-        let all : program default-setup text ≡ w .bytes ++ (stop-line (some number) ++ listing (state-of r)) =
-        w .to-come
-        ∙ ap (λ x. w .bytes ++ printed default-setup (state-of r) x) stop
-        ∙ ap (λ x. w .bytes ++ x) (printed-stop default-setup (state-of r) (some number))
-        in
-        subst (λ b. Puts old 0 b new′ last) (sym all) (puts-then (omega arith) (w .within .puts) p)
-
-  module _ (r : Register) (at : ℕ) (new : List ℕ) (end : ℕ) (w : Running text old r at new end) where
+module _
+    {text old row own begins ends jobs notes : List ℕ} {status : Status} {at : ℕ} {new : List ℕ} {end : ℕ}
+    (w : Running text old row own begins ends jobs notes status at new end)
+  where
     -- there is room for a reading refusal and the listing
     pub ending-room : end + (most-stop + most-listing) ≤ length new
-    ending-room = let n = within-next (w .within) in let l = w .within .long in let i = w .inside in omega arith
+    ending-room = omega (arith, within-next (w .within), w .within .long, w .inside, w .asked .few, w .asked .room)
 
+    pub running-asked : AskTimetable begins ends jobs notes status
+    running-asked = record { setup = default-setup; state = w .state; is = w .timetable }
+
+    -- the ordinary end
     pub running-ends :
-        (new′ : List ℕ) (last : ℕ) → length text ≤ at → Puts new end (listing (state-of r)) new′ last → Puts old 0 (program default-setup text) new′ last
-    running-ends new′ last over p =
-        let stop = ended-there default-machines text at (length text - at) over in
-        let all : program default-setup text ≡ w .bytes ++ listing (state-of r) =
+        {new′ : List ℕ} {last : ℕ} → length text ≤ at → PutsListing new end begins ends jobs notes status new′ last →
+        Puts old 0 (program default-setup text) new′ last
+    running-ends over p =
+        let all : program default-setup text ≡ w .bytes ++ listing (w .state) =
         w .to-come
-        ∙ ap (λ x. w .bytes ++ printed default-setup (state-of r) x) stop
-        ∙ ap (λ x. w .bytes ++ x) (printed-stop default-setup (state-of r) none ∙ no-stop (listing (state-of r)))
+        ∙ ap (λ x. w .bytes ++ printed default-setup (w .state) x) (ended-there default-machines text at (length text - at) over)
+        ∙ ap (λ x. w .bytes ++ x) (printed-stop default-setup (w .state) none ∙ ap (λ l. l ++ listing (w .state)) stop-none)
         in
-        subst (λ b. Puts old 0 b new′ last) (sym all) (puts-then (omega arith) (w .within .puts) p)
-      where
-        no-stop : (l : List ℕ) → stop-line none ++ l ≡ l
-        no-stop l = rw stop-none refl
+        whole (w .within) all (p default-setup (w .state) (w .timetable))
+
+    module _ (more : at < length text) where
+      left-over : length text - at ≡ suc (length text - suc at)
+      left-over = omega arith
+
+      -- there is room for a reply
+      pub running-room : end + most-reply ≤ length new
+      running-room = omega (arith, within-next (w .within), w .within .long, w .asked .few, w .asked .room)
+
+      -- a reading refusal
+      pub running-stops :
+          {number said : ℕ} {new′ : List ℕ} {last : ℕ} → act default-machines text at ≡ unread number → said ≡ number →
+          PutsRefusal new end said begins ends jobs notes status new′ last → Puts old 0 (program default-setup text) new′ last
+      running-stops {number} {said} e same p =
+          let stop : script-from default-machines (length text - at) text at ≡ record { calls = []; stop = some said } =
+          ap (λ n. script-from default-machines n text at) left-over
+          ∙ script-unread default-machines text at (length text - suc at) said (e ∙ ap unread (sym same))
+          in
+          let all : program default-setup text ≡ w .bytes ++ (stop-line (some said) ++ listing (w .state)) =
+          w .to-come
+          ∙ ap (λ x. w .bytes ++ printed default-setup (w .state) x) stop
+          ∙ ap (λ x. w .bytes ++ x) (printed-stop default-setup (w .state) (some said))
+          in
+          whole (w .within) all (p default-setup (w .state) (w .timetable))
+
+      -- a call of any kind
+      module _ (row′ : List ℕ) (next : ℕ) (kind : Kind) (says : ActSays (act default-machines text at) row′ (Called next kind)) where
+        abbrev c : Call
+        c = says .0
+
+        reach : Reaches text at c next
+        reach = act-reaches default-machines text at c next (says .1)
+
+        -- fewer bytes are left
+        pub running-less : length text - next < length text - at
+        running-less = omega (arith, reach .on, reach .within)
+
+        pub running-calls :
+            {table : List ℕ} → TableOf default-setup table →
+            Calling default-setup (w .state) c table row′ begins ends jobs notes record { kind = kind; status = status }
+        unfolding default-setup
+        running-calls table-is = record { table-is = table-is; asks = says .2; timetable = w .timetable }
+
+        pub running-called :
+            {own′ begins′ ends′ jobs′ notes′ : List ℕ} {outcome : Outcome} {new′ : List ℕ} {last : ℕ} → length row′ ≡ most-figures → length own′ ≡ owned →
+            Goes default-setup (w .state) c begins′ ends′ jobs′ notes′ outcome → PutsReply new end kind (outcome .answer) new′ last →
+            Running text old row′ own′ begins′ ends′ jobs′ notes′ (outcome .status) next new′ last
+        running-called {outcome = outcome} {new′} {last} row-long own-long goes p =
+            let st = w .state in
+            let left = step default-setup st c .left in
+            let rest = script-from default-machines (length text - next) text next in
+            let said = reply-to kind (outcome .answer) in
+            let turned : script-from default-machines (length text - at) text at ≡ with-call c rest =
+            ap (λ n. script-from default-machines n text at) left-over
+            ∙ script-call default-machines text at (length text - suc at) c next (says .1)
+            ∙ ap
+            (with-call c)
+            (enough-turns default-machines text next (length text - suc at) (length text - next) (omega (arith, reach .on)) (omega (arith, reach .within)))
+            in
+            let same : reply c (step default-setup st c .answer) ≡ said =
+            ap (reply c) (sym (goes .answer-is)) ∙ sym (said-reply row′ kind c (says .2) (outcome .answer))
+            in
+            let written =
+            within-then
+            said
+            (most-for kind)
+            (omega (arith, said-most row′ kind c (says .2), reach .enough, reach .within, w .asked .few, w .asked .room))
+            (w .within)
+            (p .puts)
+            (p .short)
+            in
+            record {
+              asked = w .asked;
+              row-long = row-long;
+              own-long = own-long;
+              state = left;
+              timetable = goes .left;
+              bytes = w .bytes ++ said;
+              within = record {
+                puts = written .puts;
+                short = omega (arith, written .short, said-most row′ kind c (says .2), reach .enough);
+                long = written .long;
+              };
+              to-come =
+                  w .to-come
+                  ∙ ap (λ x. w .bytes ++ printed default-setup st x) turned
+                  ∙ ap (λ x. w .bytes ++ x) (printed-call default-setup st c rest)
+                  ∙ ap (λ x. w .bytes ++ (x ++ printed default-setup left rest)) same
+                  ∙ sym (append-assoc (w .bytes) said (printed default-setup left rest));
+              inside = reach .within;
+            }
 
 -- What stands in the buffer at the end.
 
@@ -367,12 +387,9 @@ whole-run input old new count long kept p =
 
 -- 19, and nothing is acted on
 pub too-long :
-    (input old new : List ℕ) (r : Register) (last : ℕ) → input-limit < length input → r ≡ register-of default-setup fresh →
-    Puts old 0 (stop-line (some 19) ++ listing (state-of r)) new last → Puts old 0 (program default-setup input) new last
+    (input : List ℕ) {old new : List ℕ} {last : ℕ} → input-limit < length input → Puts old 0 too-long-output new last →
+    Puts old 0 (program default-setup input) new last
 unfolding program script
-too-long input old new r last over e p =
-    let state : state-of r ≡ fresh = ap state-of e ∙ state-same default-setup fresh in
-    let all : program default-setup input ≡ stop-line (some 19) ++ listing (state-of r) =
-    rw (lt-ltb input-limit (length input) over, state) (printed-stop default-setup fresh (some 19))
-    in
+too-long input {old} {new} {last} over p =
+    let all : program default-setup input ≡ too-long-output = rw (lt-ltb input-limit (length input) over) (printed-stop default-setup fresh (some 19)) in
     subst (λ b. Puts old 0 b new last) (sym all) p

@@ -1,41 +1,63 @@
 -- Between functions: what the parts of `run` ask and answer, in the words of the definitions. Document 01, "The program `register`".
 use mathlib.Core.Path.{_≡_}
-use mathlib.Core.List.{List, _∷_, _++_, map, List·Memᴰ}
-use Prim.Native.Nat.{ℕ, _+_, _-_, _*_, _≤_, _<_}
-use lib.Dec.{ltb}
-use lib.ListN.{length, getD, take, drop}
-use Rattle.rules.specs.declared.Job.{Job}
-use Rattle.rules.specs.declared.Row.{Row}
+use mathlib.Core.List.{List, _++_, map}
+use mathlib.Core.Option.{some}
+use Prim.Native.Nat.{ℕ, _+_, _*_, _≤_, _<_}
+use lib.ListN.{length, drop}
 use Rattle.rules.specs.declared.Answer.{Answer}
-use Rattle.rules.specs.Placing.{no-row}
-use Rattle.rules.specs.Words.{resource, row-limit}
-use Rattle.rules.specs.Codes.{resource-number, Numbered}
-use Rattle.reservation.specs.declared.calls.Call.{Call}
-use Rattle.reservation.specs.declared.calls.Kind.{Kind}
-use Rattle.reservation.specs.declared.calls.Kind.the-variants.{Submit, Withdraw, Advance}
-use Rattle.reservation.specs.declared.Register.{Register}
-use Rattle.reservation.specs.Registers.{Valid}
-use Rattle.reservation.specs.Kinds.{kind-of, call-of}
+use Rattle.rules.specs.declared.Setup.{Setup}
+use Rattle.rules.specs.Sequences.{joined}
+use Rattle.rules.specs.Words.{State, fresh, row-limit}
+use Rattle.rules.specs.Refusals.{Call, submits}
+use Rattle.timetable.specs.declared.Status.{Status}
+use Rattle.admission.specs.declared.calls.Kind.{Kind}
+use Rattle.admission.specs.declared.calls.Kind.the-variants.{Submit, Withdraw, Advance}
+use Rattle.timetable.specs.Timetables.{TimetableOf, AskTimetable}
+use Rattle.admission.specs.Called.{AsksFor}
 use Rattle.lines.specs.Figures.{field}
 use Rattle.lines.specs.Parts.{word-digits}
 use Rattle.lines.specs.Put.{Puts}
 use Rattle.script.specs.declared.acts.ActRead.{ActRead}
 use Rattle.script.specs.declared.acts.ActRead.the-variants.{Called, Unread}
-use Rattle.script.specs.declared.acts.NextAct.{NextAct}
-use Rattle.script.specs.Acts.{Act, call, unread}
+use Rattle.texts.specs.JobText.{job-text}
+use Rattle.texts.specs.Reader.{default-machines}
+use Rattle.texts.specs.Rows.{most-figures}
+use Rattle.script.specs.Acts.{Act, call, unread, as-act, number-act, act}
 use Rattle.script.specs.Keys.{job-key, from-key, to-key}
-use Rattle.script.specs.Replies.{answer-key, task-key, cost-key, rows-key, refused-key, reply}
-use Rattle.script.specs.Listing.{clock-key, total-key, held-key, machine-key, link-key, start-key, finish-key, insert-before, sorted}
+use Rattle.script.specs.Replies.{answer-key, task-key, cost-key, rows-key, refused-key, submission-reply, stop-line}
+use Rattle.script.specs.Listing.{clock-key, total-key, held-key, machine-key, link-key, start-key, finish-key, row-bytes, sorted, listing}
 use Rattle.script.specs.Program.{input-limit}
 use Rattle.script.specs.Contract.{output-size}
 
--- the act that the code read; its call stands beside it
-abbrev pub act-read : ActRead → Call → Act
-act-read (Called next) c = call (call-of c) next
-act-read (Unread number) c = unread number
+-- the act that the code read; a submission's job has its figures in the row
+abbrev pub ActSays : Act → (row : List ℕ) → ActRead → Type 0
+ActSays a row (Called next kind) = (c : Call) × (a ≡ call c next) × AsksFor default-machines row kind c
+ActSays a row (Unread number) = a ≡ unread number
 
-abbrev pub act-said : NextAct → Act
-act-said r = act-read (r .read) (r .call)
+abbrev pub UnreadNumber : ActRead → ℕ → Type 0
+UnreadNumber act r = (number : ℕ) → act ≡ Unread number → r ≡ number
+
+pub record AskJobAct (text : List ℕ) (from : ℕ) (row : List ℕ) : Type 0 where
+  pub within : from ≤ length text
+  pub long : length row ≡ most-figures
+
+pub record JobActIs (text : List ℕ) (from : ℕ) (row : List ℕ) (r : ActRead) : Type 0 where
+  pub long : length row ≡ most-figures
+  pub says : ActSays (as-act submits from (job-text default-machines (drop from text))) row r
+
+abbrev pub AskNumberAct : (text : List ℕ) → (from : ℕ) → Type 0
+AskNumberAct text from = from ≤ length text
+
+abbrev pub NumberActIs : (ℕ → Call) → (key text : List ℕ) → (from : ℕ) → ActRead → Type 0
+NumberActIs make key text from r = (row : List ℕ) → ActSays (number-act make key text from) row r
+
+pub record AskAct (text : List ℕ) (at : ℕ) (row : List ℕ) : Type 0 where
+  pub there : at < length text
+  pub long : length row ≡ most-figures
+
+pub record ActIs (text : List ℕ) (at : ℕ) (row : List ℕ) (r : ActRead) : Type 0 where
+  pub long : length row ≡ most-figures
+  pub says : ActSays (act default-machines text at) row r
 
 -- the most bytes that a field of a 64-bit number takes: its key, the digits and the line feed
 abbrev pub field-room : (key : List ℕ) → ℕ
@@ -62,9 +84,14 @@ most-for Submit = most-reply
 most-for (Withdraw number) = most-answer
 most-for (Advance tick) = most-answer
 
--- what the reply to a call of a kind writes; a submission's job is not printed
-abbrev pub ReplyPuts : (old : List ℕ) (at : ℕ) → Kind → Answer → (new : List ℕ) (next : ℕ) → Type 0
-ReplyPuts old at kind answer new next = (job : Job) → PutsAtMost old at (reply (kind-of kind job) answer) new next (most-for kind)
+-- the reply to a call of a kind
+abbrev pub reply-to : Kind → Answer → List ℕ
+reply-to Submit a = submission-reply a
+reply-to (Withdraw number) a = field answer-key (a .number)
+reply-to (Advance tick) a = field answer-key (a .number)
+
+abbrev pub PutsReply : (old : List ℕ) (at : ℕ) → Kind → Answer → (new : List ℕ) (next : ℕ) → Type 0
+PutsReply old at kind a new next = PutsAtMost old at (reply-to kind a) new next (most-for kind)
 
 abbrev pub most-heading : ℕ
 most-heading = field-room clock-key + field-room total-key + field-room held-key
@@ -80,74 +107,44 @@ most-row =
 abbrev pub most-listing : ℕ
 most-listing = most-heading + row-limit * most-row
 
--- The listing's order by numbers: a row's resource, its start and its place in the register as one number.
-
--- one past every tick that a row may name, and one past every place
-abbrev pub tick-room : ℕ
-tick-room = 4_294_967_296
-
-abbrev pub place-room : ℕ
-place-room = row-limit
-
-abbrev pub order-number : Row → (place : ℕ) → ℕ
-order-number row place = (resource-number (resource row) * tick-room + row .start) * place-room + place
-
--- a row that the number has room for
-pub record AskCode (row : Row) (place : ℕ) : Type 0 where
-  pub holder : Numbered (row .holder)
-  pub start : row .start < tick-room
-  pub place-below : place < place-room
-
-abbrev pub insert-number : ℕ → List ℕ → List ℕ
-insert-number n ns = insert-before (λ m. ltb n m) n ns
-
--- a rank at a place among the first so many, and those from there on one place further
-abbrev pub with-rank : (ranks : List ℕ) (count at rank : ℕ) → List ℕ
-with-rank ranks count at rank = take at ranks ++ rank ∷ take (count - at) (drop at ranks)
-
--- where a rank goes: before the first that is larger
-pub record PlaceFor (ranks : List ℕ) (count rank place : ℕ) : Type 0 where
-  pub within : place ≤ count
-  pub inserts : insert-number rank (take count ranks) ≡ with-rank ranks count place rank
-
-pub record RankPut (old : List ℕ) (count at rank : ℕ) (new : List ℕ) : Type 0 where
-  pub long : length new ≡ length old
-  pub ranks-are : take (count + 1) new ≡ with-rank old count at rank
-
--- there is room for a rank more
-pub record AskRanks (ranks : List ℕ) (count : ℕ) : Type 0 where
-  pub long : length ranks ≡ row-limit
-  pub room : count < row-limit
-
--- the ranks of the rows are in order, and each says the place of its row
-pub record OrderIs (rows : List Row) (count : ℕ) (ranks : List ℕ) : Type 0 where
-  pub places : List ℕ
-  pub places-below : (k : ℕ) → List·Memᴰ k places → k < count
-  pub long : length ranks ≡ row-limit
-  pub ranks-are : take count ranks ≡ map (λ k. order-number (getD rows k no-row) k) places
-  pub rows-are : map (λ k. getD rows k no-row) places ≡ sorted (take count rows)
-
-pub record AskSort (rows : List Row) (count : ℕ) : Type 0 where
-  pub long : length rows ≡ row-limit
-  pub at-most : count ≤ row-limit
-  pub coded : (i : ℕ) → i < count → AskCode (getD rows i no-row) i
-
--- what is asked where rows are listed
-pub record AskRows (rows : List Row) (count : ℕ) (output : List ℕ) (at : ℕ) : Type 0 where
-  pub order : AskSort rows count
+-- what is asked where a timetable is listed, and what is written, whichever state it is of
+pub record AskRows (output : List ℕ) (at : ℕ) (begins ends jobs notes : List ℕ) (count : ℕ) : Type 0 where
+  pub status : Status
+  pub timetable : AskTimetable begins ends jobs notes status
+  pub count-is : count ≡ status .count
   pub room : at + row-limit * most-row ≤ length output
 
-pub record AskListing (r : Register) (output : List ℕ) (at : ℕ) : Type 0 where
-  pub valid : Valid r
+abbrev pub PutsRows : (old : List ℕ) (at : ℕ) (begins ends jobs notes : List ℕ) (count : ℕ) (new : List ℕ) (next : ℕ) → Type 0
+PutsRows old at begins ends jobs notes count new next =
+    (s : Setup) (st : State) (status : Status) → TimetableOf s st begins ends jobs notes status → count ≡ status .count →
+    Puts old at (joined (map row-bytes (sorted (st .rows)))) new next
+
+pub record AskListing (output : List ℕ) (at : ℕ) (begins ends jobs notes : List ℕ) (status : Status) : Type 0 where
+  pub timetable : AskTimetable begins ends jobs notes status
   pub room : at + most-listing ≤ length output
+
+abbrev pub PutsListing : (old : List ℕ) (at : ℕ) (begins ends jobs notes : List ℕ) → Status → (new : List ℕ) (next : ℕ) → Type 0
+PutsListing old at begins ends jobs notes status new next =
+    (s : Setup) (st : State) → TimetableOf s st begins ends jobs notes status → Puts old at (listing st) new next
 
 -- the most bytes that a reading refusal takes
 abbrev pub most-stop : ℕ
 most-stop = field-room refused-key
 
-pub record AskRefusal (r : Register) (output : List ℕ) (at : ℕ) : Type 0 where
-  pub valid : Valid r
+pub record AskRefusal (output : List ℕ) (at : ℕ) (begins ends jobs notes : List ℕ) (status : Status) : Type 0 where
+  pub timetable : AskTimetable begins ends jobs notes status
   pub room : at + (most-stop + most-listing) ≤ length output
+
+abbrev pub PutsRefusal : (old : List ℕ) (at number : ℕ) (begins ends jobs notes : List ℕ) → Status → (new : List ℕ) (next : ℕ) → Type 0
+PutsRefusal old at number begins ends jobs notes status new next =
+    (s : Setup) (st : State) → TimetableOf s st begins ends jobs notes status → Puts old at (stop-line (some number) ++ listing st) new next
+
+-- what is written for an input above the limit
+abbrev pub too-long-output : List ℕ
+too-long-output = stop-line (some 19) ++ listing fresh
+
+abbrev pub AskTooLong : (output : List ℕ) → Type 0
+AskTooLong output = length output ≡ output-size
 
 pub record AskCalls (input output : List ℕ) : Type 0 where
   pub few : length input ≤ input-limit

@@ -3,24 +3,30 @@ mod acts;
 mod listing;
 mod output;
 mod replies;
-mod sorting;
 
 use acts::ActRead;
 use acts::next_act;
+use acts::unread_number;
+use admission::calls::asking;
+use admission::calls::called;
+use drcd::own::OWNED;
+use figures::lending::table_figures;
 use listing::put_listing;
 use output::put_any_field;
 use replies::put_reply;
-use reservation::Register;
-ghost use mathlib.Core.List.{_++_};
-ghost use mathlib.Core.Option.{some};
+use rules::tables::default_setup;
+use texts::job::FIGURES;
+use timeline::SPANS;
+use timeline::notes::NOTES;
+use timetable::NEVER;
+use timetable::Status;
+ghost use mathlib.Core.Path.{_≡_};
 ghost use Rattle.rules.specs.Words.{default-setup};
-ghost use Rattle.reservation.specs.Registers.{state-of};
 ghost use Rattle.lines.specs.Put.{Puts};
-ghost use Rattle.script.specs.Replies.{stop-line};
-ghost use Rattle.script.specs.Listing.{listing};
+ghost use Rattle.timetable.specs.Derived.{never};
 ghost use Rattle.script.specs.Program.{program};
 ghost use Rattle.script.specs.Contract.{Runs};
-ghost use Rattle.script.specs.Parts.{AskRefusal, AskCalls};
+ghost use Rattle.script.specs.Parts.{AskRefusal, PutsRefusal, AskCalls, AskTooLong, too-long-output};
 
 // The largest input, and an output buffer that is large enough for every input.
 pub const INPUT: usize = 65_536;
@@ -28,42 +34,91 @@ pub const INPUT: usize = 65_536;
 pub const OUTPUT: usize = 184_320;
 
 // The end of a script that a reading refusal ended: its number, and the listing.
-fn put_refusal(output: &mut [u8], at: usize, number: u64, register: Register) -> usize
-    requires { ⌜ AskRefusal register (now output) at ⌝ }
-    ensures { λ r. ⌜ Puts (now (output .entry)) at (stop-line (some number) ++ listing (state-of register)) (now (output .exit)) r ⌝ }
+fn put_refusal<'a>(
+    output: &'a mut [u8],
+    at: usize,
+    number: u64,
+    begins: &'a [u64],
+    ends: &'a [u64],
+    jobs: &'a [u16],
+    notes: &'a [u64],
+    status: Status,
+) -> usize
+    requires { ⌜ AskRefusal (now output) at (now begins) (now ends) (now jobs) (now notes) status ⌝ }
+    ensures { λ r. ⌜ PutsRefusal (now (output .entry)) at number (now (begins .entry)) (now (ends .entry)) (now (jobs .entry)) (now (notes .entry)) status
+        (now (output .exit)) r ⌝ }
 {
     let start = put_any_field(output, at, b"refused=", number);
-    put_listing(output, start, register)
+    put_listing(output, start, begins, ends, jobs, notes, status)
 }
 
-// The calls of a script in their order, each answered before the next is read.
+// The status of a fresh register.
+fn fresh() -> Status
+    ensures { λ r. ⌜ r ≡ record { clock = 0; count = 0; total = 0; soonest = never } ⌝ }
+{
+    Status {
+        clock: 0,
+        count: 0,
+        total: 0,
+        soonest: NEVER,
+    }
+}
+
+// The calls of a script in their order, each answered before the next is read. The timetable is lent to each, and nothing of it is copied.
 fn run_calls(input: &[u8], output: &mut [u8]) -> usize
     requires { ⌜ AskCalls (now input) (now output) ⌝ }
     ensures { λ r. ⌜ Puts (now (output .entry)) 0 (program default-setup (now (input .entry))) (now (output .exit)) r ⌝ }
 {
-    let mut register = Register::new();
+    let table = table_figures(default_setup());
+    let mut row = [0; FIGURES];
+    let mut own = [0; OWNED];
+    let mut begins = [0; SPANS];
+    let mut ends = [0; SPANS];
+    let mut jobs = [0; SPANS];
+    let mut notes = [0; NOTES];
+    let mut status = fresh();
     let mut at = 0;
     let mut end = 0;
     while at < input.len() {
-        let act = next_act(input, at);
-        let read = act.read;
-        match read {
-            ActRead::Called(next) => {
-                let call = act.call;
-                let kind = call.kind;
-                let reply = register.apply(call);
-                let left = reply.register;
-                register = left;
-                let answer = reply.answer;
-                end = put_reply(output, end, kind, answer);
-                at = next;
-            }
-            ActRead::Unread(number) => {
-                return put_refusal(output, end, number, register);
-            }
-        }
+        let act = next_act(input, at, &mut row);
+        let ActRead::Called(next, kind) = act else {
+            return put_refusal(
+                output,
+                end,
+                unread_number(act),
+                &begins,
+                &ends,
+                &jobs,
+                &notes,
+                status,
+            );
+        };
+        let outcome = called(
+            &table,
+            &row,
+            &mut own,
+            &mut begins,
+            &mut ends,
+            &mut jobs,
+            &mut notes,
+            asking(kind, status),
+        );
+        status = outcome.status;
+        end = put_reply(output, end, kind, outcome.answer);
+        at = next;
     }
-    put_listing(output, end, register)
+    put_listing(output, end, &begins, &ends, &jobs, &notes, status)
+}
+
+// An input above the limit: nothing of it is acted on.
+fn put_too_long(output: &mut [u8]) -> usize
+    requires { ⌜ AskTooLong (now output) ⌝ }
+    ensures { λ r. ⌜ Puts (now (output .entry)) 0 too-long-output (now (output .exit)) r ⌝ }
+{
+    let spans = [0; SPANS];
+    let jobs = [0; SPANS];
+    let notes = [0; NOTES];
+    put_refusal(output, 0, 19, &spans, &spans, &jobs, &notes, fresh())
 }
 
 // Writes what the program `register` prints for an input, and answers how many bytes that is.
@@ -71,7 +126,7 @@ pub fn run(input: &[u8], output: &mut [u8; OUTPUT]) -> usize
     ensures { λ r. ⌜ Runs (now (input .entry)) (now (output .entry)) (now (output .exit)) r ⌝ }
 {
     if INPUT < input.len() {
-        return put_refusal(output, 0, 19, Register::new());
+        return put_too_long(output);
     }
     run_calls(input, output)
 }

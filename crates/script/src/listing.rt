@@ -1,19 +1,15 @@
 // The listing: clock, total, held, then the rows by machine and start, and by link and start.
 use crate::output::put_any_field;
-use crate::sorting::PLACES;
-use crate::sorting::order_of;
-use reservation::Register;
+use drcd::own::Entry;
+use drcd::own::row_of;
 use rules::Holder;
-use rules::ROWS;
 use rules::Row;
-ghost use mathlib.Core.List.{map};
+use timeline::notes::note_at;
+use timetable::Status;
 ghost use Prim.Native.Nat.{_+_, _≤_};
-ghost use lib.ListN.{length, take};
-ghost use Rattle.reservation.specs.Registers.{state-of};
-ghost use Rattle.rules.specs.Sequences.{joined};
-ghost use Rattle.lines.specs.Put.{Puts};
-ghost use Rattle.script.specs.Listing.{task-listed, message-listed, row-bytes, sorted, heading, listing};
-ghost use Rattle.script.specs.Parts.{PutsAtMost, most-heading, most-row, AskRows, AskListing};
+ghost use lib.ListN.{length};
+ghost use Rattle.script.specs.Listing.{task-listed, message-listed, row-bytes, heading};
+ghost use Rattle.script.specs.Parts.{PutsAtMost, most-heading, most-row, AskRows, PutsRows, AskListing, PutsListing};
 
 fn put_heading(output: &mut [u8], at: usize, clock: u64, total: u64, held: u64) -> usize
     requires { ⌜ at + most-heading ≤ length (now output) ⌝ }
@@ -29,10 +25,10 @@ fn put_task_row(output: &mut [u8], at: usize, machine: u64, task: u64, row: Row)
     ensures { λ r. ⌜ PutsAtMost (now (output .entry)) at (task-listed machine task row) (now (output .exit)) r most-row ⌝ }
 {
     let at1 = put_any_field(output, at, b"machine=", machine);
-    let at2 = put_any_field(output, at1, b"job=", row.job);
+    let at2 = put_any_field(output, at1, b"job=", row.job as u64);
     let at3 = put_any_field(output, at2, b"task=", task);
-    let at4 = put_any_field(output, at3, b"start=", row.start);
-    put_any_field(output, at4, b"finish=", row.finish)
+    let at4 = put_any_field(output, at3, b"start=", row.start as u64);
+    put_any_field(output, at4, b"finish=", row.finish as u64)
 }
 
 fn put_message_row(
@@ -49,11 +45,11 @@ fn put_message_row(
 {
     let at1 = put_any_field(output, at, b"link=", source);
     let at2 = put_any_field(output, at1, b"to=", target);
-    let at3 = put_any_field(output, at2, b"job=", row.job);
+    let at3 = put_any_field(output, at2, b"job=", row.job as u64);
     let at4 = put_any_field(output, at3, b"from=", sender);
     let at5 = put_any_field(output, at4, b"task=", receiver);
-    let at6 = put_any_field(output, at5, b"start=", row.start);
-    put_any_field(output, at6, b"finish=", row.finish)
+    let at6 = put_any_field(output, at5, b"start=", row.start as u64);
+    put_any_field(output, at6, b"finish=", row.finish as u64)
 }
 
 fn put_row(output: &mut [u8], at: usize, row: Row) -> usize
@@ -62,42 +58,74 @@ fn put_row(output: &mut [u8], at: usize, row: Row) -> usize
 {
     let holder = row.holder;
     match holder {
-        Holder::TaskOn { machine, task } => put_task_row(output, at, machine, task, row),
+        Holder::TaskOn { machine, task } => put_task_row(
+            output,
+            at,
+            machine as u64,
+            task as u64,
+            row,
+        ),
         Holder::MessageOn {
             source,
             target,
             sender,
             receiver,
-        } => put_message_row(output, at, source, target, sender, receiver, row),
+        } => put_message_row(
+            output,
+            at,
+            source as u64,
+            target as u64,
+            sender as u64,
+            receiver as u64,
+            row,
+        ),
     }
 }
 
-// The rows in their order. The place of its row is what a rank leaves when divided by the places.
-fn put_rows(output: &mut [u8], at: usize, rows: [Row; ROWS], count: usize) -> usize
-    requires { ⌜ AskRows rows count (now output) at ⌝ }
-    ensures { λ r. ⌜ Puts (now (output .entry)) at (joined (map row-bytes (sorted (take count rows)))) (now (output .exit)) r ⌝ }
+// The rows in their order, which is that of the timeline.
+fn put_rows<'a>(
+    output: &'a mut [u8],
+    at: usize,
+    begins: &'a [u64],
+    ends: &'a [u64],
+    jobs: &'a [u16],
+    notes: &'a [u64],
+    count: usize,
+) -> usize
+    requires { ⌜ AskRows (now output) at (now begins) (now ends) (now jobs) (now notes) count ⌝ }
+    ensures { λ r. ⌜ PutsRows (now (output .entry)) at (now (begins .entry)) (now (ends .entry)) (now (jobs .entry)) (now (notes .entry)) count
+        (now (output .exit)) r ⌝ }
 {
-    let ranks = order_of(rows, count);
     let mut next = at;
-    let mut k = 0;
+    let mut k: usize = 0;
     while k < count {
-        let rank = ranks[k];
-        let place = (rank % PLACES) as usize;
-        let row = rows[place];
-        next = put_row(output, next, row);
+        let note = note_at(notes, k);
+        let entry = Entry {
+            at: 0,
+            begin: begins[k],
+            end: ends[k],
+            label: note.label,
+            cost: note.cost,
+        };
+        next = put_row(output, next, row_of(entry, jobs[k]));
         k += 1;
     }
     next
 }
 
-pub fn put_listing(output: &mut [u8], at: usize, register: Register) -> usize
-    requires { ⌜ AskListing register (now output) at ⌝ }
-    ensures { λ r. ⌜ Puts (now (output .entry)) at (listing (state-of register)) (now (output .exit)) r ⌝ }
+pub fn put_listing<'a>(
+    output: &'a mut [u8],
+    at: usize,
+    begins: &'a [u64],
+    ends: &'a [u64],
+    jobs: &'a [u16],
+    notes: &'a [u64],
+    status: Status,
+) -> usize
+    requires { ⌜ AskListing (now output) at (now begins) (now ends) (now jobs) (now notes) status ⌝ }
+    ensures { λ r. ⌜ PutsListing (now (output .entry)) at (now (begins .entry)) (now (ends .entry)) (now (jobs .entry)) (now (notes .entry)) status
+        (now (output .exit)) r ⌝ }
 {
-    let clock = register.clock();
-    let total = register.total();
-    let count = register.count();
-    let rows = register.rows();
-    let start = put_heading(output, at, clock, total, count as u64);
-    put_rows(output, start, rows, count)
+    let start = put_heading(output, at, status.clock, status.total, status.count as u64);
+    put_rows(output, start, begins, ends, jobs, notes, status.count)
 }

@@ -1,11 +1,12 @@
 // The bytes of an answer, one field a line.
 use crate::output::put_any_field;
-use reservation::calls::Kind;
+use admission::calls::Kind;
 use rules::Answer;
 ghost use Prim.Native.Nat.{_+_, _≤_};
 ghost use lib.ListN.{length};
-ghost use Rattle.script.specs.Replies.{submission-reply};
-ghost use Rattle.script.specs.Parts.{PutsAtMost, ReplyPuts, most-reply};
+ghost use Rattle.lines.specs.Figures.{field};
+ghost use Rattle.script.specs.Replies.{submission-reply, answer-key};
+ghost use Rattle.script.specs.Parts.{PutsAtMost, most-reply, most-answer, PutsReply};
 
 fn put_submitted(output: &mut [u8], at: usize, answer: Answer) -> usize
     requires { ⌜ at + most-reply ≤ length (now output) ⌝ }
@@ -18,13 +19,21 @@ fn put_submitted(output: &mut [u8], at: usize, answer: Answer) -> usize
 }
 
 // Withdrawals and clock moves print `answer` only.
+fn put_number(output: &mut [u8], at: usize, number: u64) -> usize
+    requires { ⌜ at + most-answer ≤ length (now output) ⌝ }
+    ensures { λ r. ⌜ PutsAtMost (now (output .entry)) at (field answer-key number) (now (output .exit)) r most-answer ⌝ }
+{
+    put_any_field(output, at, b"answer=", number)
+}
+
+// The reply to a call of a kind.
 pub fn put_reply(output: &mut [u8], at: usize, kind: Kind, answer: Answer) -> usize
     requires { ⌜ at + most-reply ≤ length (now output) ⌝ }
-    ensures { λ r. ⌜ ReplyPuts (now (output .entry)) at kind answer (now (output .exit)) r ⌝ }
+    ensures { λ r. ⌜ PutsReply (now (output .entry)) at kind answer (now (output .exit)) r ⌝ }
 {
     match kind {
         Kind::Submit => put_submitted(output, at, answer),
-        Kind::Withdraw(_) => put_any_field(output, at, b"answer=", answer.number),
-        Kind::Advance(_) => put_any_field(output, at, b"answer=", answer.number),
+        Kind::Withdraw(_) => put_number(output, at, answer.number),
+        Kind::Advance(_) => put_number(output, at, answer.number),
     }
 }

@@ -1,111 +1,189 @@
--- The two loops of a removal: how many stay before each place, and columns packed in place.
+-- The pass that packs: of the first i entries those that stay stand at the front, and what those that leave have cost is added up.
 use mathlib.Core.Path.{_≡_, refl, sym, ap, _∙_}
-use mathlib.Core.Bool.{Bool, true, false, not, cond}
-use mathlib.Core.List.{List, [], _∷_, _++_, map, append-nil, map-append}
-use Prim.Native.Nat.{ℕ, _+_, _≤_, _<_}
+use mathlib.Core.Bool.{Bool, true, false, not}
+use mathlib.Core.List.{List, [], _∷_, _++_, append-nil}
+use Prim.Native.Nat.{ℕ, zero, suc, _+_, _*_, _≤_, _<_}
 use native.Mathlib.Omega.{arith}
 use native.Mathlib.Numerals.{add-one}
-use lib.ListN.{length, getD, take, set, length-set, length-append}
-use lib.Seq.{take-suc-set, getD-set-same, getD-set-other}
-use borrow.Author.Tests.{not-true, not-false}
-use Rattle.rules.specs.Sequences.{keep, cons-if, numbers}
-use Rattle.rules.proofs.Sequences.{by-less, keep-append, length-keep, length-numbers}
-use Rattle.timeline.specs.RowLine.{stay-count, PlacesLeft, AskPlacesLeft}
-use Rattle.timeline.proofs.Counted.{numbers-next, stay-none, stay-step, stay-at-most}
+use lib.ListN.{length, getD, set, length-append, List·getD-append}
+use lib.Seq.{getD-at}
+use Rattle.rules.specs.Sequences.{keep, cons-if, sum-of, numbers}
+use Rattle.rules.specs.Bounds.{largest-cost}
+use Rattle.rules.proofs.Sequences.{by-less, keep-append, keep-all, keep-none, length-keep, length-numbers, numbers-more, mem-numbers, sum-append}
+use Rattle.timeline.specs.RowLine.{note-size}
+use Rattle.timeline.specs.Notes.{note-at}
+use Rattle.timeline.specs.TakenOut.{AskTakeOut}
+use Rattle.timeline.specs.Packing.{going, staying, PackedIn, PackedIs}
+use Rattle.timeline.proofs.Entries.{Written, figure-written, note-copied, note-moved}
 
--- The first k places are noted, and so many stay before the next.
-pub record Noted (leaves : List Bool) (count : ℕ) (before left : List ℕ) (stay k : ℕ) : Type 0 where
-  pub within : k ≤ count
-  pub long : length left ≡ length before
-  pub stay-is : stay ≡ stay-count leaves k
-  pub few : stay ≤ k
-  pub each : (j : ℕ) → j < k → getD left j 0 ≡ stay-count leaves j
+-- Indices.
 
-module _ {leaves : List Bool} {count : ℕ} {before : List ℕ} (asked : AskPlacesLeft leaves count before) where
-  pub noted-none : Noted leaves count before before 0 0
-  noted-none = record { within = omega arith; long = refl; stay-is = sym (stay-none leaves); few = omega arith; each = λ j h. absurd (omega arith) }
+keep-next : (p : ℕ → Bool) (i : ℕ) → keep p (numbers 0 (i + 1)) ≡ keep p (numbers 0 i) ++ cons-if (p i) i []
+keep-next p i =
+    let same : 0 + i ≡ i = omega arith in
+    ap (λ n. keep p (numbers 0 n)) (add-one i)
+    ∙ ap (keep p) (rw same at (numbers-more 0 i))
+    ∙ keep-append p (numbers 0 i) (i ∷ [])
 
-  module _ {left : List ℕ} {stay k : ℕ} (noted : Noted leaves count before left stay k) where
-    pub noted-all : count ≤ k → PlacesLeft leaves count left
-    noted-all all = record { long = let long = asked .left-long in omega arith; each = λ j h. noted .each j (omega arith) }
+numbers-at : (a n k : ℕ) → k < n → getD (numbers a n) k 0 ≡ a + k
+numbers-at a zero k h = absurd (omega arith)
+numbers-at a (suc n) zero h = omega arith
+numbers-at a (suc n) (suc k) h = let below = numbers-at (suc a) n k (omega arith) in omega arith
 
-    module _ (more : k < count) where
-      noted-more : {next : ℕ} → next ≡ stay-count leaves (k + 1) → Noted leaves count before (set left k stay) next (k + 1)
-      noted-more e = record {
-        within = omega arith;
-        long = length-set left k stay ∙ noted .long;
-        stay-is = e;
-        few = omega (arith, stay-at-most leaves (k + 1));
-        each =
-            λ j h.
-            by-less
-            j
-            k
-            (λ less. getD-set-other left k j stay 0 (λ q. omega arith) ∙ noted .each j less)
-            (λ most.
-            let same : j ≡ k = omega arith in
-            let room : k < length left = let long = asked .left-long in omega arith in
-            rw (same, getD-set-same left k stay 0 room) (noted .stay-is));
+module _ (leaves : List Bool) where
+  pub staying-few : (i : ℕ) → length (staying leaves i) ≤ i
+  staying-few i = omega (arith, length-keep (λ k. not (getD leaves k false)) (numbers 0 i), length-numbers 0 i)
+
+  module _ (i : ℕ) where
+    stay-more : getD leaves i false ≡ false → staying leaves (i + 1) ≡ staying leaves i ++ (i ∷ [])
+    stay-more e = keep-next (λ k. not (getD leaves k false)) i ∙ ap (λ b. staying leaves i ++ cons-if (not b) i []) e
+
+    stay-same : getD leaves i false ≡ true → staying leaves (i + 1) ≡ staying leaves i
+    stay-same e =
+        keep-next (λ k. not (getD leaves k false)) i ∙ ap (λ b. staying leaves i ++ cons-if (not b) i []) e ∙ append-nil (staying leaves i)
+
+    go-more : getD leaves i false ≡ true → going leaves (i + 1) ≡ going leaves i ++ (i ∷ [])
+    go-more e = keep-next (λ k. getD leaves k false) i ∙ ap (λ b. going leaves i ++ cons-if b i []) e
+
+    go-same : getD leaves i false ≡ false → going leaves (i + 1) ≡ going leaves i
+    go-same e = keep-next (λ k. getD leaves k false) i ∙ ap (λ b. going leaves i ++ cons-if b i []) e ∙ append-nil (going leaves i)
+
+  module _ (from : ℕ) (none : (i : ℕ) → i < from → getD leaves i false ≡ false) where
+    stay-all : staying leaves from ≡ numbers 0 from
+    stay-all = keep-all (λ k. not (getD leaves k false)) (numbers 0 from) (λ k m. let within = mem-numbers 0 from m in ap not (none k (omega arith)))
+
+    go-none : going leaves from ≡ []
+    go-none = keep-none (λ k. getD leaves k false) (numbers 0 from) (λ k m. let within = mem-numbers 0 from m in none k (omega arith))
+
+-- One column.
+
+module _ {A : Type 0} (entry : List ℕ → ℕ → A) (leaves : List Bool) where
+  packed-none : (old : List ℕ) (from : ℕ) → ((i : ℕ) → i < from → getD leaves i false ≡ false) → PackedIn entry leaves from old old
+  packed-none old from none = record {
+    long = refl;
+    front =
+        λ k h.
+        let less : k < from = omega (arith, staying-few leaves from) in
+        let here : getD (numbers 0 from) k 0 ≡ k = omega (arith, numbers-at 0 from k less) in
+        ap (entry old) (sym (ap (λ l. getD l k 0) (stay-all leaves from none) ∙ here));
+    after = λ k h. refl;
+  }
+
+  module _ {old new : List ℕ} {i : ℕ} (packed : PackedIn entry leaves i old new) where
+    packed-goes : getD leaves i false ≡ true → PackedIn entry leaves (i + 1) old new
+    packed-goes e = record {
+      long = packed .long;
+      front = rw (stay-same leaves i e) (packed .front);
+      after = λ k h. packed .after k (omega arith);
+    }
+
+    packed-stays :
+        getD leaves i false ≡ false → {new′ : List ℕ} {kept : ℕ} → kept ≡ length (staying leaves i) → Written entry new new′ kept (entry new i) →
+        PackedIn entry leaves (i + 1) old new′
+    packed-stays e {new′} {kept} is written =
+        let s = staying leaves i in
+        let few = staying-few leaves i in
+        record {
+          long = written .long ∙ packed .long;
+          front =
+              rw
+              (stay-more leaves i e)
+              (λ k h.
+              by-less
+              k
+              kept
+              (λ less.
+              written .other k (λ q. omega arith)
+              ∙ packed .front k (omega arith)
+              ∙ ap (entry old) (sym (List·getD-append s (i ∷ []) 0 k (omega arith))))
+              (λ most.
+              let same : k ≡ kept = omega (arith, length-append s (i ∷ [])) in
+              rw
+              (same, getD-at s i [] 0 kept (sym is))
+              (written .here ∙ packed .after i (omega arith))));
+          after = λ k h. written .other k (λ q. omega arith) ∙ packed .after k (omega arith);
+        }
+
+-- After i entries.
+pub record Packing
+    (begins ends jobs notes : List ℕ) (leaves : List Bool) (count : ℕ) (begins′ ends′ jobs′ notes′ : List ℕ) (kept cost i : ℕ) : Type 0 where
+  pub within : i ≤ count
+  pub few : kept ≤ i
+  pub cost-fits : cost ≤ i * largest-cost
+  pub are : PackedIs begins ends jobs notes leaves i begins′ ends′ jobs′ notes′ record { count = kept; cost = cost }
+
+module _ {begins ends jobs notes : List ℕ} {leaves : List Bool} {from count : ℕ} (asked : AskTakeOut begins ends jobs notes leaves from count) where
+  pub packing-none : Packing begins ends jobs notes leaves count begins ends jobs notes from 0 from
+  packing-none =
+      let none = asked .first .none-before in
+      record {
+        within = asked .first .at-most;
+        few = omega arith;
+        cost-fits = omega arith;
+        are = record {
+          begins-are = packed-none _ leaves begins from none;
+          ends-are = packed-none _ leaves ends from none;
+          jobs-are = packed-none _ leaves jobs from none;
+          notes-are = packed-none _ leaves notes from none;
+          count-is = sym (ap length (stay-all leaves from none) ∙ length-numbers 0 from);
+          cost-is = sym (ap (sum-of (λ i. note-at notes i .cost)) (go-none leaves from none));
+        };
       }
 
-      next-is : {b : Bool} → getD leaves k false ≡ b → stay-count leaves (k + 1) ≡ cond b stay (1 + stay)
-      next-is e = rw (add-one k, stay-step leaves k (let long = asked .leaves-long in omega arith), e, noted .stay-is) refl
+  module _
+      {begins′ ends′ jobs′ notes′ : List ℕ} {kept cost i : ℕ}
+      (packing : Packing begins ends jobs notes leaves count begins′ ends′ jobs′ notes′ kept cost i) where
+    -- what a row that is yet to be passed has cost
+    cost-same : getD notes′ (i * note-size + 1) 0 ≡ getD notes (i * note-size + 1) 0
+    cost-same = ap (λ note. note .cost) (packing .are .notes-are .after i (omega arith))
 
-      pub noted-goes : not (getD leaves k false) ≡ false → Noted leaves count before (set left k stay) stay (k + 1)
-      noted-goes e = noted-more (sym (next-is (not-false _ e)))
+    module _ (more : i < count) where
+      pub cost-few : getD notes′ (i * note-size + 1) 0 ≤ largest-cost
+      cost-few = omega (arith, cost-same, asked .costs-fit i more)
 
-      pub noted-stays : not (getD leaves k false) ≡ true → Noted leaves count before (set left k stay) (stay + 1) (k + 1)
-      noted-stays e = noted-more (let next = next-is (not-true _ e) in omega arith)
-
--- Packing: of the first i entries those that stay stand at the front, each made to what it is then; from i on all are as before.
-abbrev pub staying : (stays : ℕ → Bool) → ℕ → List ℕ
-staying stays i = keep stays (numbers 0 i)
-
-pub record Packed (stays : ℕ → Bool) (made : ℕ → ℕ) (old new : List ℕ) (i : ℕ) : Type 0 where
-  pub front : take (length (staying stays i)) new ≡ map made (staying stays i)
-  pub rest : (k : ℕ) → i ≤ k → getD new k 0 ≡ getD old k 0
-  pub long : length new ≡ length old
-
-module _ (stays : ℕ → Bool) where
-  staying-few : (i : ℕ) → length (staying stays i) ≤ i
-  staying-few i = omega (arith, length-keep stays (numbers 0 i), length-numbers 0 i)
-
-  staying-more : (i : ℕ) {b : Bool} → stays i ≡ b → staying stays (i + 1) ≡ staying stays i ++ cons-if b i []
-  staying-more i e =
-      ap (λ n. keep stays (numbers 0 n)) (add-one i)
-      ∙ ap (keep stays) (numbers-next i)
-      ∙ keep-append stays (numbers 0 i) (i ∷ [])
-      ∙ ap (λ t. staying stays i ++ cons-if t i []) e
-
-  pub staying-goes : (i : ℕ) → stays i ≡ false → staying stays (i + 1) ≡ staying stays i
-  staying-goes i e = staying-more i e ∙ append-nil (staying stays i)
-
-  pub staying-stays : (i : ℕ) → stays i ≡ true → length (staying stays (i + 1)) ≡ length (staying stays i) + 1
-  staying-stays i e = ap length (staying-more i e) ∙ length-append (staying stays i) (i ∷ [])
-
-  module _ (made : ℕ → ℕ) (old : List ℕ) where
-    pub packed-none : Packed stays made old old 0
-    packed-none = record { front = refl; rest = λ k h. refl; long = refl }
-
-    module _ {new : List ℕ} {i : ℕ} (packed : Packed stays made old new i) where
-      pub packed-goes : stays i ≡ false → Packed stays made old new (i + 1)
-      packed-goes e = record {
-        front = rw (staying-goes i e) (packed .front);
-        rest = λ k h. packed .rest k (omega arith);
-        long = packed .long;
-      }
-
-      pub packed-stays :
-          stays i ≡ true → i < length old → {kept value : ℕ} → kept ≡ length (staying stays i) → value ≡ made i →
-          Packed stays made old (set new kept value) (i + 1)
-      packed-stays e here {kept} {value} is v =
-          let few = staying-few i in
-          let room : kept < length new = let long = packed .long in omega arith in
+      pub packing-goes :
+          getD leaves i false ≡ true →
+          Packing begins ends jobs notes leaves count begins′ ends′ jobs′ notes′ kept (cost + getD notes′ (i * note-size + 1) 0) (i + 1)
+      packing-goes e =
+          let are = packing .are in
           record {
-            front =
-                rw
-                (staying-stays i e, staying-more i e, ← is, add-one kept, take-suc-set new kept value room, is, packed .front, v)
-                (sym (map-append made (staying stays i) (i ∷ [])));
-            rest = λ k h. getD-set-other new kept k value 0 (λ q. omega arith) ∙ packed .rest k (omega arith);
-            long = length-set new kept value ∙ packed .long;
+            within = omega arith;
+            few = omega arith;
+            cost-fits = omega (arith, cost-few);
+            are = record {
+              begins-are = packed-goes _ leaves (are .begins-are) e;
+              ends-are = packed-goes _ leaves (are .ends-are) e;
+              jobs-are = packed-goes _ leaves (are .jobs-are) e;
+              notes-are = packed-goes _ leaves (are .notes-are) e;
+              count-is = are .count-is ∙ sym (ap length (stay-same leaves i e));
+              cost-is =
+                  rw
+                  (go-more leaves i e, sum-append (λ k. note-at notes k .cost) (going leaves i) (i ∷ []))
+                  (omega (arith, are .cost-is, cost-same));
+            };
           }
+
+      pub packing-stays :
+          getD leaves i false ≡ false →
+          Packing begins ends jobs notes leaves count
+          (set begins′ kept (getD begins′ i 0)) (set ends′ kept (getD ends′ i 0)) (set jobs′ kept (getD jobs′ i 0))
+          (note-copied notes′ (kept * note-size) (i * note-size)) (kept + 1) cost (i + 1)
+      packing-stays e =
+          let are = packing .are in
+          let is = are .count-is in
+          record {
+            within = omega arith;
+            few = omega arith;
+            cost-fits = omega arith;
+            are = record {
+              begins-are = packed-stays _ leaves (are .begins-are) e is (figure-written begins′ kept _ (omega (arith, are .begins-are .long)));
+              ends-are = packed-stays _ leaves (are .ends-are) e is (figure-written ends′ kept _ (omega (arith, are .ends-are .long)));
+              jobs-are = packed-stays _ leaves (are .jobs-are) e is (figure-written jobs′ kept _ (omega (arith, are .jobs-are .long)));
+              notes-are = packed-stays _ leaves (are .notes-are) e is (note-moved notes′ kept i (packing .few) (omega (arith, are .notes-are .long)));
+              count-is = rw (stay-more leaves i e) (omega (arith, is, length-append (staying leaves i) (i ∷ [])));
+              cost-is = rw (go-same leaves i e) (are .cost-is);
+            };
+          }
+
+    pub packing-all : count ≤ i → PackedIs begins ends jobs notes leaves count begins′ ends′ jobs′ notes′ record { count = kept; cost = cost }
+    packing-all all = let same : i ≡ count = omega arith in rw same at (packing .are)

@@ -1,222 +1,171 @@
--- What is left of the timeline when rows leave: the columns packed are the timeline of the rows that stay.
+-- What is left when both passes are done: the columns of the rows that stay, and blank entries past them.
 use mathlib.Core.Path.{_≡_, refl, sym, ap, _∙_}
 use mathlib.Core.Bool.{Bool, true, false, not}
 use mathlib.Core.List.{List, [], _∷_, map}
-use Prim.Native.Nat.{ℕ, zero, suc, _+_, _≤_, _<_}
+use Prim.Native.Nat.{ℕ, zero, suc, _+_, _*_, _≤_, _<_}
 use native.Mathlib.Omega.{arith}
-use lib.ListN.{length, getD, set}
-use lib.Seq.{getD-take, take-length}
+use lib.ListN.{length, getD, length-map, List·getD-eq-default}
 use Rattle.rules.specs.declared.Row.{Row}
-use Rattle.rules.specs.Sequences.{keep, count-of, numbers}
-use Rattle.rules.specs.Placing.{no-row}
-use Rattle.rules.proofs.Sequences.{keep-mem, mem-keep, getD-mem, mem-getD, mem-numbers, numbers-mem, length-numbers, length-keep}
-use Rattle.timeline.specs.RowLine.{TimelineOf, stay-count, Says, AskRemove, Removed}
-use Rattle.timeline.proofs.Drawing.{follows}
-use Rattle.timeline.proofs.Grown.{timeline-drawn}
-use Rattle.timeline.proofs.Counted.{keep-at, keep-room, keep-from, covers-all, stay-numbers, stay-rows}
-use Rattle.timeline.proofs.Rising.{rising-at, rising-keep, rising-numbers}
-use Rattle.timeline.proofs.Packed.{staying, staying-goes, staying-stays, Packed, packed-none, packed-goes, packed-stays}
+use Rattle.rules.specs.Sequences.{keep, cons-if, sum-of, numbers}
+use Rattle.rules.specs.Words.{held-by, row-limit}
+use Rattle.rules.specs.Codes.{holder-label}
+use Rattle.rules.specs.Placing.{no-row, costs}
+use Rattle.rules.proofs.Sequences.{by-less}
+use Rattle.timeline.specs.declared.removal.Left.{Left}
+use Rattle.timeline.specs.RowLine.{spans-room, row-begin, row-end, column, notes-of, note-size, Says}
+use Rattle.timeline.specs.Notes.{note-at}
+use Rattle.timeline.specs.TakenOut.{AskTakeOut, TakenOutIs}
+use Rattle.timeline.specs.Packing.{going, staying, figure-at, no-note, PackedIn, PackedIs, ClearedIn, Cleared}
+use Rattle.timeline.proofs.Packed.{staying-few}
+use Rattle.timeline.proofs.Entries.{column-at, column-is, row-note, cost-at, notes-at, notes-are}
 
--- the row at an index stays
-abbrev pub stays-at : (places : List ℕ) (leaves : List Bool) → ℕ → Bool
-stays-at places leaves i = not (getD leaves (getD places i 0) false)
+-- what passes a test is what stands at the indices that do
+keep-indices :
+    {A : Type 0} (p : A → Bool) (q : ℕ → Bool) (f : ℕ → A) (d : A) (l : List A) (a : ℕ) →
+    ((i : ℕ) → i < length l → (q (a + i) ≡ p (getD l i d)) × (f (a + i) ≡ getD l i d)) → keep p l ≡ map f (keep q (numbers a (length l)))
+keep-indices p q f d [] a same = refl
+keep-indices p q f d (x ∷ l) a same =
+    let here : a + 0 ≡ a = omega arith in
+    let first = rw here at (same 0 (omega arith)) in
+    rw
+    (first .0)
+    (go
+    (p x)
+    (first .1)
+    (keep-indices p q f d l (suc a) (λ i h. let next : a + suc i ≡ suc a + i = omega arith in rw next at (same (suc i) (omega arith)))))
+  where
+    go :
+        (b : Bool) → f a ≡ x → keep p l ≡ map f (keep q (numbers (suc a) (length l))) →
+        cons-if b x (keep p l) ≡ map f (cons-if b a (keep q (numbers (suc a) (length l))))
+    go true e below = rw (e, below) refl
+    go false e below = below
 
--- After i entries.
-pub record Leaving
-    (begins ends places : List ℕ) (leaves : List Bool) (count : ℕ) (begins′ ends′ places′ : List ℕ) (kept i : ℕ) : Type 0 where
-  pub within : i ≤ count
-  pub kept-is : kept ≡ length (staying (stays-at places leaves) i)
-  pub few : kept ≤ i
-  pub begins-are : Packed (stays-at places leaves) (λ j. getD begins j 0) begins begins′ i
-  pub ends-are : Packed (stays-at places leaves) (λ j. getD ends j 0) ends ends′ i
-  pub places-are : Packed (stays-at places leaves) (λ j. stay-count leaves (getD places j 0)) places places′ i
+map-at : {A B : Type 0} (f : A → B) (l : List A) (d : A) (e : B) (k : ℕ) → k < length l → getD (map f l) k e ≡ f (getD l k d)
+map-at f [] d e k h = absurd (omega arith)
+map-at f (x ∷ l) d e zero h = refl
+map-at f (x ∷ l) d e (suc k) h = map-at f l d e k (omega arith)
 
-module _
-    {begins ends places : List ℕ} {leaves : List Bool} {left : List ℕ} {count : ℕ} (asked : AskRemove begins ends places leaves left count) where
-  pub removing-none : Leaving begins ends places leaves count begins ends places 0 0
-  removing-none = record {
-    within = omega arith;
-    kept-is = refl;
-    few = omega arith;
-    begins-are = packed-none _ _ begins;
-    ends-are = packed-none _ _ ends;
-    places-are = packed-none _ _ places;
-  }
+sum-map : {A : Type 0} (f : A → ℕ) (g : ℕ → ℕ) (h : ℕ → A) → ((i : ℕ) → g i ≡ f (h i)) → (l : List ℕ) → sum-of f (map h l) ≡ sum-of g l
+sum-map f g h same [] = refl
+sum-map f g h same (i ∷ l) = let below = sum-map f g h same l in omega (arith, same i)
 
-  module _
-      {begins′ ends′ places′ : List ℕ} {kept i : ℕ} (removing : Leaving begins ends places leaves count begins′ ends′ places′ kept i) where
-    place-same : getD places′ i 0 ≡ getD places i 0
-    place-same = removing .places-are .rest i (omega arith)
-
-    module _ (more : i < count) where
-      pub place-within : getD places′ i 0 < count
-      place-within = omega (arith, place-same, asked .places-below i more)
-
-      pub removing-goes : stays-at places′ leaves i ≡ false → Leaving begins ends places leaves count begins′ ends′ places′ kept (i + 1)
-      removing-goes e =
-          let gone : stays-at places leaves i ≡ false = rw (sym place-same) e in
-          record {
-            within = omega arith;
-            kept-is = removing .kept-is ∙ ap length (sym (staying-goes (stays-at places leaves) i gone));
-            few = omega arith;
-            begins-are = packed-goes _ _ begins (removing .begins-are) gone;
-            ends-are = packed-goes _ _ ends (removing .ends-are) gone;
-            places-are = packed-goes _ _ places (removing .places-are) gone;
-          }
-
-      pub removing-stays :
-          stays-at places′ leaves i ≡ true →
-          Leaving begins ends places leaves count
-          (set begins′ kept (getD begins′ i 0)) (set ends′ kept (getD ends′ i 0)) (set places′ kept (getD left (getD places′ i 0) 0)) (kept + 1) (i + 1)
-      removing-stays e =
-          let here : stays-at places leaves i ≡ true = rw (sym place-same) e in
-          record {
-            within = omega arith;
-            kept-is = omega (arith, removing .kept-is, staying-stays (stays-at places leaves) i here);
-            few = omega arith;
-            begins-are =
-                packed-stays _ _ begins (removing .begins-are) here (let long = asked .begins-long in omega arith) (removing .kept-is)
-                (removing .begins-are .rest i (omega arith));
-            ends-are =
-                packed-stays _ _ ends (removing .ends-are) here (let long = asked .ends-long in omega arith) (removing .kept-is)
-                (removing .ends-are .rest i (omega arith));
-            places-are =
-                packed-stays _ _ places (removing .places-are) here (let long = asked .places-long in omega arith) (removing .kept-is)
-                (ap (λ k. getD left k 0) place-same ∙ asked .places-left .each (getD places i 0) (asked .places-below i more));
-          }
-
--- what stands at the front
-map-at : (f : ℕ → ℕ) (l : List ℕ) (k : ℕ) → k < length l → getD (map f l) k 0 ≡ f (getD l k 0)
-map-at f [] k h = absurd (omega arith)
-map-at f (x ∷ l) zero h = refl
-map-at f (x ∷ l) (suc k) h = map-at f l k (omega arith)
-
-front-at :
-    {stays : ℕ → Bool} {made : ℕ → ℕ} {old new : List ℕ} {i : ℕ} → Packed stays made old new i → (k : ℕ) → k < length (staying stays i) →
-    getD new k 0 ≡ made (getD (staying stays i) k 0)
-front-at {stays} {made} {old} {new} {i} packed k h =
-    sym (getD-take (length (staying stays i)) new k 0 h) ∙ ap (λ l. getD l k 0) (packed .front) ∙ map-at made (staying stays i) k h
-
--- When all are passed.
-module _
-    {begins ends places : List ℕ} {leaves : List Bool} {begins′ ends′ places′ : List ℕ} (rows : List Row) (leaving : Row → Bool)
-    (line : TimelineOf rows begins ends places) (says : Says leaving rows leaves)
-    (begins-are : Packed (stays-at places leaves) (λ j. getD begins j 0) begins begins′ (length rows))
-    (ends-are : Packed (stays-at places leaves) (λ j. getD ends j 0) ends ends′ (length rows))
-    (places-are : Packed (stays-at places leaves) (λ j. stay-count leaves (getD places j 0)) places places′ (length rows)) where
-  abbrev stays : Row → Bool
-  stays row = not (leaving row)
-
+-- Rows of which a column says which leave.
+module _ (line : List Row) (leaving : Row → Bool) {leaves : List Bool} {count : ℕ} (long : length line ≡ count) (says : Says leaving line leaves) where
   abbrev others : List Row
-  others = keep stays rows
+  others = keep (λ row. not (leaving row)) line
 
-  abbrev indices : List ℕ
-  indices = staying (stays-at places leaves) (length rows)
+  abbrev row-at : ℕ → Row
+  row-at i = getD line i no-row
 
-  -- a row stays if its place says so
-  row-stays : (k : ℕ) → k < length rows → not (getD leaves k false) ≡ stays (getD rows k no-row)
-  row-stays k h = ap not (says .says k h)
+  kept-rows :
+      (p : Row → Bool) (q : ℕ → Bool) → ((i : ℕ) → i < length line → q i ≡ p (row-at i)) → keep p line ≡ map row-at (keep q (numbers 0 count))
+  kept-rows p q same =
+      rw
+      (← long)
+      (keep-indices p q row-at no-row line 0 (λ i h. let here : 0 + i ≡ i = omega arith in rw here (same i h, refl)))
 
-  -- where a row that stays stands among those that do
-  new-place : (k : ℕ) → k < length rows → not (getD leaves k false) ≡ true →
-      (stay-count leaves k < length others) × (getD others (stay-count leaves k) no-row ≡ getD rows k no-row)
-  new-place k h e =
-      let here : stays (getD rows k no-row) ≡ true = sym (row-stays k h) ∙ e in
-      let counted = stay-rows leaving rows leaves says k (omega arith) in
-      (rw counted at (keep-room stays rows no-row k h here), rw counted at (keep-at stays rows no-row k h here))
+  others-are : others ≡ map row-at (staying leaves count)
+  others-are = kept-rows (λ row. not (leaving row)) (λ i. not (getD leaves i false)) (λ i h. ap not (says .says i h))
 
-  -- as many indices stay as rows
-  as-many : length indices ≡ length others
-  as-many =
-      let long : length (numbers 0 (length rows)) ≡ length rows = length-numbers 0 (length rows) in
-      let p : ℕ → Bool = λ k. not (getD leaves k false) in
-      let all : count-of (stays-at places leaves) (numbers 0 (length rows)) ≡ count-of p (numbers 0 (length (numbers 0 (length rows)))) =
-      covers-all (λ j. getD places j 0) (numbers 0 (length rows)) p
-      (λ k h. let at = line .has-index k (omega arith) in (at .0, numbers-mem 0 (length rows) (at .0) (omega arith) (omega arith), at .2))
-      in
-      all
-      ∙ ap (λ n. count-of p (numbers 0 n)) long
-      ∙ stay-numbers leaves (length rows) (says .long)
-      ∙ sym (stay-rows leaving rows leaves says (length rows) (omega arith))
-      ∙ ap (count-of stays) (take-length rows)
+  leaving-are : keep leaving line ≡ map row-at (going leaves count)
+  leaving-are = kept-rows leaving (λ i. getD leaves i false) (says .says)
 
-  -- the index that the k-th entry left had before
-  index-of : (k : ℕ) → k < length others → (getD indices k 0 < length rows) × (stays-at places leaves (getD indices k 0) ≡ true)
-  index-of k h =
-      let kept = mem-keep (stays-at places leaves) (numbers 0 (length rows)) (getD-mem indices k 0 (omega (arith, as-many))) in
-      (let within = mem-numbers 0 (length rows) (kept .0) in omega arith, kept .1)
+  others-count : length (staying leaves count) ≡ length others
+  others-count = sym (ap length others-are ∙ length-map (staying leaves count) row-at)
 
-  place-at : (k : ℕ) → k < length others → getD places′ k 0 ≡ stay-count leaves (getD places (getD indices k 0) 0)
-  place-at k h = front-at places-are k (omega (arith, as-many))
+  others-few : length others ≤ count
+  others-few = omega (arith, others-count, staying-few leaves count)
 
-  pub remaining : TimelineOf others begins′ ends′ places′
-  remaining =
-      let few = length-keep stays rows in
-      record {
-        begins-long = let a = line .begins-long in let b = begins-are .long in omega arith;
-        ends-long = let a = line .ends-long in let b = ends-are .long in omega arith;
-        places-long = let a = line .places-long in let b = places-are .long in omega arith;
-        drawable = λ row m. line .drawable row (mem-keep stays rows m .0);
-        place-below =
-            λ k h.
-            let at = index-of k h in
-            rw (place-at k h) (new-place (getD places (getD indices k 0) 0) (line .place-below (getD indices k 0) (at .0)) (at .1) .0);
-        stands =
-            λ k h.
-            let at = index-of k h in
-            let j = getD indices k 0 in
-            let there = line .stands j (at .0) in
-            let within : k < length indices = omega (arith, as-many) in
-            rw
-            (place-at k h, new-place (getD places j 0) (line .place-below j (at .0)) (at .1) .1)
-            record {
-              begins-there = front-at begins-are k within ∙ there .begins-there;
-              ends-there = front-at ends-are k within ∙ there .ends-there;
-            };
-        has-index =
-            λ k h.
-            let from = keep-from stays rows no-row k h in
-            let at = line .has-index (from .0) (from .1) in
-            let here : stays-at places leaves (at .0) ≡ true = rw (at .2) (row-stays (from .0) (from .1) ∙ from .2) in
-            let index =
-            mem-getD 0 (keep-mem (stays-at places leaves) (numbers-mem 0 (length rows) (at .0) (omega arith) (let w = at .1 in omega arith)) here)
-            in (
-              index .0,
-              omega (arith, as-many, index .1),
-              front-at places-are (index .0) (index .1)
-                  ∙ ap (λ j. stay-count leaves (getD places j 0)) (index .2)
-                  ∙ ap (stay-count leaves) (at .2)
-                  ∙ sym (stay-rows leaving rows leaves says (from .0) (let w = from .1 in omega arith))
-                  ∙ from .3,
-            );
-        ascends =
-            λ k h.
-            let rises = rising-keep _ (stays-at places leaves) (rising-numbers 0 (length rows)) in
-            let climbs = rising-at _ rises 0 k (k + 1) (omega arith) (omega (arith, as-many)) in
-            let next = index-of (k + 1) h in
-            omega (
-              arith,
-              front-at ends-are k (omega (arith, as-many)),
-              front-at begins-are (k + 1) (omega (arith, as-many)),
-              follows (timeline-drawn line) (getD indices k 0) (getD indices (k + 1) 0) climbs (next .0),
-            );
-      }
+  leaving-cost : (cost-of : ℕ → ℕ) → ((i : ℕ) → cost-of i ≡ row-at i .cost) → sum-of cost-of (going leaves count) ≡ costs (keep leaving line)
+  leaving-cost cost-of same =
+      sym (ap costs leaving-are ∙ sum-map (λ row. row .cost) cost-of row-at same (going leaves count))
 
-pub removing-all :
-    {begins ends places : List ℕ} {leaves : List Bool} {count : ℕ} {begins′ ends′ places′ : List ℕ} {kept i : ℕ} →
-    Leaving begins ends places leaves count begins′ ends′ places′ kept i → count ≤ i →
-    Removed begins ends places leaves count begins′ ends′ places′ kept
-removing-all {begins} {ends} {places} {leaves} {count} {begins′} {ends′} {places′} {kept} {i} removing all = record {
-  is =
-      λ rows leaving long line says.
-      let same : i ≡ length rows = let within = removing .within in omega arith in
-      let b = rw same at (removing .begins-are) in
-      let e = rw same at (removing .ends-are) in
-      let p = rw same at (removing .places-are) in (
-        remaining rows leaving line says b e p,
-        removing .kept-is ∙ ap (λ n. length (staying (stays-at places leaves) n)) same ∙ as-many rows leaving line says b e p,
-      );
-  begins-long = removing .begins-are .long;
-  ends-long = removing .ends-are .long;
-  places-long = removing .places-are .long;
-}
+  -- a column whose entries say of each row the same
+  remaining :
+      {A : Type 0} (entry : List ℕ → ℕ → A) (blank : A) (of : Row → A) → of no-row ≡ blank → {old middle new : List ℕ} →
+      PackedIn entry leaves count old middle → ClearedIn entry blank (length (staying leaves count)) count middle new →
+      ((k : ℕ) → entry old k ≡ of (row-at k)) → (k : ℕ) → entry new k ≡ of (getD others k no-row)
+  remaining entry blank of none packed cleared each k =
+      let past : length others ≤ k → of (getD others k no-row) ≡ blank = λ out. ap of (List·getD-eq-default others no-row out) ∙ none in
+      by-less
+      k
+      (length (staying leaves count))
+      (λ less.
+      cleared .before k less
+      ∙ packed .front k less
+      ∙ each (getD (staying leaves count) k 0)
+      ∙ ap of (sym (ap (λ l. getD l k no-row) others-are ∙ map-at row-at (staying leaves count) 0 no-row k less)))
+      (λ most.
+      by-less
+      k
+      count
+      (λ less. cleared .blanks k most less ∙ sym (past (omega (arith, others-count))))
+      (λ out.
+      cleared .after k out
+      ∙ packed .after k out
+      ∙ each k
+      ∙ ap of (List·getD-eq-default line no-row (omega arith))
+      ∙ none
+      ∙ sym (past (omega (arith, others-count)))))
+
+  module _ (few : count ≤ row-limit) {old middle new : List ℕ} where
+    column-left :
+        (figure : Row → ℕ) → figure no-row ≡ 0 → length old ≡ spans-room → PackedIn figure-at leaves count old middle →
+        ClearedIn figure-at 0 (length (staying leaves count)) count middle new → old ≡ column figure line → new ≡ column figure others
+    column-left figure blank wide packed cleared is =
+        column-is
+        figure
+        blank
+        others
+        (omega (arith, others-few))
+        (cleared .long ∙ packed .long ∙ wide)
+        (remaining figure-at 0 figure blank packed cleared (λ k. ap (λ l. getD l k 0) is ∙ column-at figure blank line k))
+
+    notes-left :
+        (last : ℕ → ℕ) → last 0 ≡ 0 → length old ≡ spans-room * note-size → PackedIn note-at leaves count old middle →
+        ClearedIn note-at no-note (length (staying leaves count)) count middle new → old ≡ notes-of last line → new ≡ notes-of last others
+    unfolding holder-label
+    notes-left last none wide packed cleared is =
+        notes-are
+        last
+        others
+        none
+        (omega (arith, others-few))
+        (cleared .long ∙ packed .long ∙ wide)
+        (remaining note-at no-note (row-note last) (rw none refl) packed cleared (λ k. ap (λ l. note-at l k) is ∙ notes-at last line none k))
+
+-- a blank row begins and ends at zero
+begin-blank : row-begin no-row ≡ 0
+unfolding held-by
+begin-blank = refl
+
+end-blank : row-end no-row ≡ 0
+unfolding held-by
+end-blank = refl
+
+pub taken-out :
+    {begins ends jobs notes : List ℕ} {leaves : List Bool} {from count : ℕ} {begins′ ends′ jobs′ notes′ begins″ ends″ jobs″ notes″ : List ℕ} {r : Left} →
+    AskTakeOut begins ends jobs notes leaves from count → PackedIs begins ends jobs notes leaves count begins′ ends′ jobs′ notes′ r →
+    Cleared begins′ ends′ jobs′ notes′ (r .count) count begins″ ends″ jobs″ notes″ →
+    TakenOutIs begins ends jobs notes leaves count begins″ ends″ jobs″ notes″ r
+taken-out asked packed cleared =
+    let few = asked .few in
+    let blanks = rw (packed .count-is) at cleared in
+    record {
+      begins-are =
+          λ line leaving long says.
+          column-left line leaving long says few row-begin begin-blank (asked .begins-long) (packed .begins-are) (blanks .begins-are);
+      ends-are =
+          λ line leaving long says.
+          column-left line leaving long says few row-end end-blank (asked .ends-long) (packed .ends-are) (blanks .ends-are);
+      jobs-are =
+          λ line leaving long says.
+          column-left line leaving long says few (λ row. row .job) refl (asked .jobs-long) (packed .jobs-are) (blanks .jobs-are);
+      notes-are =
+          λ line leaving last long says none.
+          notes-left line leaving long says few last none (asked .notes-long) (packed .notes-are) (blanks .notes-are);
+      count-is = λ line leaving long says. packed .count-is ∙ others-count line leaving long says;
+      cost-is =
+          λ line leaving last long says is.
+          packed .cost-is ∙ leaving-cost line leaving long says _ (λ i. ap (λ l. note-at l i .cost) is ∙ cost-at last line i);
+    }

@@ -1,46 +1,65 @@
--- Between functions: the timeline of a register's rows, as it is kept from call to call, and what the functions that change it ask and answer.
+-- Between functions: the rows of a register by where they begin on the line, columns with a figure of each, and what the functions that change columns do.
 use mathlib.Core.Path.{_≡_}
-use mathlib.Core.Bool.{Bool, false, not, cond}
-use mathlib.Core.List.{List, [], _∷_, _++_, List·Memᴰ}
-use Prim.Native.Nat.{ℕ, zero, suc, _+_, _-_, _≤_, _<_}
+use mathlib.Core.Bool.{Bool, false, cond}
+use mathlib.Core.List.{List, [], _∷_, _++_, map}
+use Prim.Native.Nat.{ℕ, _+_, _-_, _≤_, _<_}
 use lib.Dec.{ltb}
-use lib.ListN.{length, getD, take, drop}
+use lib.ListN.{length, getD, take, drop, replicate}
 use Rattle.rules.specs.declared.Row.{Row}
-use Rattle.rules.specs.Sequences.{keep}
-use Rattle.rules.specs.Words.{hold-of, row-limit}
+use Rattle.rules.specs.Sequences.{joined}
+use Rattle.rules.specs.Words.{hold-of, row-limit, most-tasks, most-messages}
+use Rattle.rules.specs.Codes.{holder-label}
 use Rattle.rules.specs.Placing.{no-row}
-use Rattle.timeline.specs.Timeline.{begin-of, end-of, Drawable, StandsAt}
+use Rattle.timeline.specs.Timeline.{begin-of, end-of}
 
--- The timeline of rows: at each index a row's begin and end, and its place among the rows; every row has an index, and they ascend.
-pub record TimelineOf (rows : List Row) (begins ends places : List ℕ) : Type 0 where
-  pub begins-long : length rows ≤ length begins
-  pub ends-long : length rows ≤ length ends
-  pub places-long : length rows ≤ length places
-  pub drawable : (row : Row) → List·Memᴰ row rows → Drawable (hold-of row)
-  pub place-below : (i : ℕ) → i < length rows → getD places i 0 < length rows
-  pub stands : (i : ℕ) → i < length rows → StandsAt (hold-of (getD rows (getD places i 0) no-row)) begins ends i
-  pub has-index : (k : ℕ) → k < length rows → (i : ℕ) × (i < length rows) × (getD places i 0 ≡ k)
-  pub ascends : (i : ℕ) → i + 1 < length rows → getD ends i 0 ≤ getD begins (i + 1) 0
+-- the rows of one job at the most, and the room of the columns
+abbrev pub most-own : ℕ
+most-own = most-tasks + most-messages
 
--- The same as a definition over the rows: each is inserted into the line of those before it, before the first that begins later.
-pub record Stretch : Type 0 where
-  pub begin : ℕ
-  pub end : ℕ
-  pub place : ℕ
+abbrev pub spans-room : ℕ
+spans-room = row-limit + most-own
 
-unfoldable pub insert-stretch : Stretch → List Stretch → List Stretch
-insert-stretch e [] = e ∷ []
-insert-stretch e (f ∷ fs) = cond (ltb (e .begin) (f .begin)) (e ∷ f ∷ fs) (f ∷ insert-stretch e fs)
+abbrev pub row-begin : Row → ℕ
+row-begin row = begin-of (hold-of row)
 
-abbrev pub stretch-of : (place : ℕ) → Row → Stretch
-stretch-of place row = record { begin = begin-of (hold-of row); end = end-of (hold-of row); place = place }
+abbrev pub row-end : Row → ℕ
+row-end row = end-of (hold-of row)
 
-unfoldable pub line-from : (place : ℕ) → List Row → List Stretch → List Stretch
-line-from place [] line = line
-line-from place (row ∷ rows) line = line-from (place + 1) rows (insert-stretch (stretch-of place row) line)
+-- The line of rows: each is inserted before the first that begins later.
+unfoldable pub insert-row : Row → List Row → List Row
+insert-row row [] = row ∷ []
+insert-row row (other ∷ line) = cond (ltb (row-begin row) (row-begin other)) (row ∷ other ∷ line) (other ∷ insert-row row line)
 
-abbrev pub line-of : List Row → List Stretch
-line-of rows = line-from 0 rows []
+unfoldable pub line-onto : List Row → List Row → List Row
+line-onto line [] = line
+line-onto line (row ∷ rows) = line-onto (insert-row row line) rows
+
+abbrev pub line-of : List Row → List Row
+line-of rows = line-onto [] rows
+
+-- rows, and blank ones up to a room
+abbrev pub slots : (room : ℕ) → List Row → List Row
+slots room rows = rows ++ replicate (room - length rows) no-row
+
+-- a figure of each slot
+abbrev pub column : (figure : Row → ℕ) → List Row → List ℕ
+column figure line = map figure (slots spans-room line)
+
+-- what is noted of a row: its label, its cost, and the last finish of its job
+abbrev pub note-of : (last : ℕ → ℕ) → Row → List ℕ
+note-of last row = holder-label (row .holder) ∷ row .cost ∷ last (row .job) ∷ []
+
+abbrev pub notes-of : (last : ℕ → ℕ) → List Row → List ℕ
+notes-of last line = joined (map (note-of last) (slots spans-room line))
+
+-- the figures of a note
+abbrev pub note-size : ℕ
+note-size = 3
+
+-- where a row goes on a line
+pub record GoesAt (line : List Row) (row : Row) (at : ℕ) : Type 0 where
+  pub within : at ≤ length line
+  pub is : insert-row row line ≡ take at line ++ (row ∷ drop at line)
 
 -- A value put at an index of the first so many, and those from there on one place further.
 pub record InsertedAt (old : List ℕ) (count at value : ℕ) (new : List ℕ) : Type 0 where
@@ -51,42 +70,16 @@ pub record AskInsert (old : List ℕ) (count at : ℕ) : Type 0 where
   pub room : count < length old
   pub within : at ≤ count
 
--- Removal.
+-- A value taken out at an index of the first so many: those after it go one place back, and the last leaves a zero.
+pub record RemovedAt (old : List ℕ) (count at : ℕ) (new : List ℕ) : Type 0 where
+  pub new-is : new ≡ take at old ++ (take (count - (at + 1)) (drop (at + 1) old) ++ (0 ∷ drop count old))
+  pub long : length new ≡ length old
 
--- how many of the first so many stay, by a column that says which leave
-unfoldable pub stay-count : (leaves : List Bool) → (count : ℕ) → ℕ
-stay-count [] count = 0
-stay-count (l ∷ ls) zero = 0
-stay-count (l ∷ ls) (suc count) = cond l (stay-count ls count) (1 + stay-count ls count)
+pub record AskRemoveAt (old : List ℕ) (count at : ℕ) : Type 0 where
+  pub room : count ≤ length old
+  pub within : at < count
 
 -- the column says of each row whether it leaves
 pub record Says (leaves : Row → Bool) (rows : List Row) (column : List Bool) : Type 0 where
   pub long : length rows ≤ length column
   pub says : (k : ℕ) → k < length rows → getD column k false ≡ leaves (getD rows k no-row)
-
--- for each place how many before it stay
-pub record PlacesLeft (leaves : List Bool) (count : ℕ) (left : List ℕ) : Type 0 where
-  pub long : count ≤ length left
-  pub each : (k : ℕ) → k < count → getD left k 0 ≡ stay-count leaves k
-
-pub record AskPlacesLeft (leaves : List Bool) (count : ℕ) (left : List ℕ) : Type 0 where
-  pub leaves-long : count ≤ length leaves
-  pub left-long : count ≤ length left
-  pub few : count ≤ row-limit
-
-pub record AskRemove (begins ends places : List ℕ) (leaves : List Bool) (left : List ℕ) (count : ℕ) : Type 0 where
-  pub begins-long : count ≤ length begins
-  pub ends-long : count ≤ length ends
-  pub places-long : count ≤ length places
-  pub places-below : (i : ℕ) → i < count → getD places i 0 < count
-  pub leaves-long : count ≤ length leaves
-  pub places-left : PlacesLeft leaves count left
-
--- whatever rows they are the timeline of, and whichever leave: what is left is the timeline of the others, and as many are counted
-pub record Removed (begins ends places : List ℕ) (leaves : List Bool) (count : ℕ) (begins′ ends′ places′ : List ℕ) (r : ℕ) : Type 0 where
-  pub is :
-      (rows : List Row) (leaving : Row → Bool) → length rows ≡ count → TimelineOf rows begins ends places → Says leaving rows leaves →
-      TimelineOf (keep (λ row. not (leaving row)) rows) begins′ ends′ places′ × (r ≡ length (keep (λ row. not (leaving row)) rows))
-  pub begins-long : length begins′ ≡ length begins
-  pub ends-long : length ends′ ≡ length ends
-  pub places-long : length places′ ≡ length places

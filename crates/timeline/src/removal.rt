@@ -1,46 +1,110 @@
-// The timeline without the rows that leave: the others keep their order, and their places are those that they have then.
-ghost use Rattle.timeline.specs.RowLine.{AskPlacesLeft, PlacesLeft, AskRemove, Removed};
+// The timeline without the rows that leave: the others keep their order, and zeros stand where they stood.
+use crate::notes::NOTE;
+use rules::ROWS;
+ghost use Rattle.timeline.specs.TakenOut.{AskLeaving, FirstLeaving, AskTakeOut, TakenOutIs};
+ghost use Rattle.timeline.specs.Packing.{PackedIs, AskClear, Cleared};
 
-// For each place how many rows before it stay: its place when the others are gone.
-pub fn places_left(leaves: &[bool], count: usize, left: &mut [u16])
-    requires { ⌜ AskPlacesLeft (now leaves) count (now left) ⌝ }
-    ensures { λ _. ⌜ PlacesLeft (now (leaves .entry)) count (now (left .exit)) ⌝ }
-{
-    let mut stay: u16 = 0;
-    let mut k = 0;
-    while k < count {
-        left[k] = stay;
-        if !leaves[k] {
-            stay += 1;
-        }
-        k += 1;
-    }
+// How many rows are left, and what those that left have cost.
+pub struct Left {
+    pub count: usize,
+    pub cost: u64,
 }
 
-// Takes the spans of the rows that leave out of the timeline, and answers how many are left.
-pub fn remove<'a>(
+// The index of the first row that leaves, or the count.
+pub fn first_leaving(leaves: &[bool; ROWS], count: usize) -> usize
+    requires { ⌜ AskLeaving (now leaves) count ⌝ }
+    ensures { λ r. ⌜ FirstLeaving (now (leaves .entry)) count r ⌝ }
+{
+    let mut i: usize = 0;
+    while i < count {
+        if leaves[i] {
+            return i;
+        }
+        i += 1;
+    }
+    count
+}
+
+// Puts those that stay behind each other, in one pass from the first that leaves on.
+fn pack<'a>(
     begins: &'a mut [u64],
     ends: &'a mut [u64],
-    places: &'a mut [u16],
-    leaves: &'a [bool],
-    left: &'a [u16],
+    jobs: &'a mut [u16],
+    notes: &'a mut [u64],
+    leaves: &'a [bool; ROWS],
+    from: usize,
     count: usize,
-) -> usize
-    requires { ⌜ AskRemove (now begins) (now ends) (now places) (now leaves) (now left) count ⌝ }
-    ensures { λ r. ⌜ Removed (now (begins .entry)) (now (ends .entry)) (now (places .entry)) (now (leaves .entry)) count
-        (now (begins .exit)) (now (ends .exit)) (now (places .exit)) r ⌝ }
+) -> Left
+    requires { ⌜ AskTakeOut (now begins) (now ends) (now jobs) (now notes) (now leaves) from count ⌝ }
+    ensures { λ r. ⌜ PackedIs (now (begins .entry)) (now (ends .entry)) (now (jobs .entry)) (now (notes .entry)) (now (leaves .entry)) count
+        (now (begins .exit)) (now (ends .exit)) (now (jobs .exit)) (now (notes .exit)) r ⌝ }
 {
-    let mut kept = 0;
-    let mut i = 0;
+    let mut kept = from;
+    let mut cost: u64 = 0;
+    let mut i = from;
     while i < count {
-        let place = places[i] as usize;
-        if !leaves[place] {
+        let at = i * NOTE;
+        if leaves[i] {
+            cost += notes[at + 1];
+        } else {
+            let to = kept * NOTE;
             begins[kept] = begins[i];
             ends[kept] = ends[i];
-            places[kept] = left[place];
+            jobs[kept] = jobs[i];
+            notes[to + 0] = notes[at + 0];
+            notes[to + 1] = notes[at + 1];
+            notes[to + 2] = notes[at + 2];
             kept += 1;
         }
         i += 1;
     }
-    kept
+    Left {
+        count: kept,
+        cost: cost,
+    }
+}
+
+// Zeros from an index on up to a count.
+fn clear<'a>(
+    begins: &'a mut [u64],
+    ends: &'a mut [u64],
+    jobs: &'a mut [u16],
+    notes: &'a mut [u64],
+    from: usize,
+    count: usize,
+)
+    requires { ⌜ AskClear (now begins) (now ends) (now jobs) (now notes) count ⌝ }
+    ensures { λ _. ⌜ Cleared (now (begins .entry)) (now (ends .entry)) (now (jobs .entry)) (now (notes .entry)) from count
+        (now (begins .exit)) (now (ends .exit)) (now (jobs .exit)) (now (notes .exit)) ⌝ }
+{
+    let mut i = from;
+    while i < count {
+        let at = i * NOTE;
+        begins[i] = 0;
+        ends[i] = 0;
+        jobs[i] = 0;
+        notes[at + 0] = 0;
+        notes[at + 1] = 0;
+        notes[at + 2] = 0;
+        i += 1;
+    }
+}
+
+// The timeline of the rows that stay. None leaves before the index given.
+pub fn take_out<'a>(
+    begins: &'a mut [u64],
+    ends: &'a mut [u64],
+    jobs: &'a mut [u16],
+    notes: &'a mut [u64],
+    leaves: &'a [bool; ROWS],
+    from: usize,
+    count: usize,
+) -> Left
+    requires { ⌜ AskTakeOut (now begins) (now ends) (now jobs) (now notes) (now leaves) from count ⌝ }
+    ensures { λ r. ⌜ TakenOutIs (now (begins .entry)) (now (ends .entry)) (now (jobs .entry)) (now (notes .entry)) (now (leaves .entry)) count
+        (now (begins .exit)) (now (ends .exit)) (now (jobs .exit)) (now (notes .exit)) r ⌝ }
+{
+    let left = pack(begins, ends, jobs, notes, leaves, from, count);
+    clear(begins, ends, jobs, notes, left.count, count);
+    left
 }

@@ -2,6 +2,7 @@
 #![allow(dead_code)]
 
 use baseline::job::{Job, MAX_MESSAGES, MAX_TASKS};
+use register::{write_job_into, Refusal};
 
 /// Splitmix64.
 pub struct Dice(pub u64);
@@ -32,6 +33,11 @@ pub fn figures(job: &Job) -> Vec<u64> {
         row.extend([message.from, message.to, message.volume]);
     }
     row
+}
+
+/// What the linked writer answers: a length, or the number of a refusal.
+pub fn written(row: &[u64], buffer: &mut [u8]) -> Result<usize, u64> {
+    write_job_into(row, buffer).map_err(Refusal::number)
 }
 
 /// A figure of the environment, or what stands for it.

@@ -9,18 +9,18 @@ use Rattle.script.proofs.put_refusal.Tie as tie
 -- The stops: the start, and the refusal's field.
 
 abbrev start : tie.After-put-any-field → tie.Start
-start c = c .before .before .before .before
+start c = c .before .before .before .before .before .before .before .before
 
 abbrev stopped : tie.After-put-listing → tie.After-put-any-field
 stopped c = c .before .before .before .before
 
 returns : tie.Need-returns
 unfolding stop-line
-returns c =
+returns c s st of =
     let put = c .before .before in
     let field = stopped put in
     let room = start field .pre .room in
-    puts-then (omega arith) (field .put-any-field .ensures .puts) (put .put-listing .ensures)
+    puts-then (omega arith) (field .put-any-field .ensures .puts) (put .put-listing .ensures s st of)
 
 pub put-refusal-spec : {M : Type 1} → statement M
 put-refusal-spec =

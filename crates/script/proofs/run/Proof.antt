@@ -1,7 +1,7 @@
 -- `script::run` meets its contract: an input above the limit is not acted on.
 use mathlib.Core.Path.{_≡_}
-use borrow.Author.Needs.{needs}
 use lib.ListN.{length}
+use borrow.Author.Needs.{needs}
 use Rattle.script.specs.Contract.{output-size}
 use Rattle.script.proofs.Running.{whole-run, too-long}
 use Rattle.script.proofs.run.Statement.{statement}
@@ -9,11 +9,11 @@ use Rattle.script.proofs.run.Tie as tie
 
 returns : tie.Need-returns
 returns c =
-    let above = c .before .before .before in
+    let above = c .before .before in
     let a = above .before .before .args in
     let long : length (a .output .now) ≡ output-size = search needs in
-    let put = c .put-refusal in
-    whole-run _ _ _ _ long (put .kept .0) (too-long (a .input .now) _ _ _ _ (above .if1 .taken) (c .before .new .ensures .0) (put .ensures))
+    let put = c .put-too-long in
+    whole-run _ _ _ _ long (put .kept .0) (too-long (a .input .now) (above .if1 .taken) (put .ensures))
 
 returns-2 : tie.Need-returns-2
 returns-2 c =
@@ -22,5 +22,4 @@ returns-2 c =
     whole-run (a .input .now) _ _ _ long (c .run-calls .kept .1 .0) (c .run-calls .ensures)
 
 pub run-spec : {M : Type 1} → statement M
-run-spec =
-    tie.close (tie.spec (λ c κs. search needs) (λ c κs. search needs) returns (λ c κs. search needs) returns-2)
+run-spec = tie.close (tie.spec (λ c κs. search needs) returns (λ c κs. search needs) returns-2)

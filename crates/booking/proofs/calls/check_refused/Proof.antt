@@ -15,15 +15,15 @@ expect-done c = c .before .before .before .before
 
 expect-requires : tie.Need-expect-requires
 expect-requires c κs = let at = c .before .before .before in eq-eqb _ _
-    (c .before .clock .ensures ∙ (ap (λ r. r .clock) (at .before .before .pre (at .if1 .left)) ∙ sym (c .clock2 .ensures)))
+    (c .before .clock .ensures ∙ (ap (λ r. r .status .clock) (at .before .before .pre (at .if1 .left)) ∙ sym (c .clock2 .ensures)))
 
 expect-requires-2 : tie.Need-expect-requires-2
 expect-requires-2 c κs = let at = tested-1 (c .before .before) in
-    eq-eqb _ _ (c .before .total .ensures ∙ (ap (λ r. r .total) (at .before .before .pre (at .if1 .left)) ∙ sym (c .total2 .ensures)))
+    eq-eqb _ _ (c .before .total .ensures ∙ (ap (λ r. r .status .total) (at .before .before .pre (at .if1 .left)) ∙ sym (c .total2 .ensures)))
 
 expect-requires-3 : tie.Need-expect-requires-3
 expect-requires-3 c κs = let at = tested-1 (expect-done (c .before)) in
-    eq-eqb _ _ (c .before .count .ensures ∙ (ap (λ r. r .count) (at .before .before .pre (at .if1 .left)) ∙ sym (c .count2 .ensures)))
+    eq-eqb _ _ (c .before .count .ensures ∙ (ap (λ r. r .status .count) (at .before .before .pre (at .if1 .left)) ∙ sym (c .count2 .ensures)))
 
 pub check-refused-spec : {M : Type 1} → statement M
 check-refused-spec =

@@ -11,13 +11,13 @@ abbrev new-done : tie.After-expect2 → tie.After-new
 new-done c = c .before .before .before .before
 
 expect-requires : tie.Need-expect-requires
-expect-requires c κs = eq-eqb _ _ (c .clock .ensures ∙ ap (λ r. r .clock) (c .before .new .ensures .0))
+expect-requires c κs = eq-eqb _ _ (c .clock .ensures ∙ ap (λ r. r .status .clock) (c .before .new .ensures .0))
 
 expect-requires-2 : tie.Need-expect-requires-2
-expect-requires-2 c κs = eq-eqb _ _ (c .total .ensures ∙ ap (λ r. r .total) (c .before .before .before .new .ensures .0))
+expect-requires-2 c κs = eq-eqb _ _ (c .total .ensures ∙ ap (λ r. r .status .total) (c .before .before .before .new .ensures .0))
 
 expect-requires-3 : tie.Need-expect-requires-3
-expect-requires-3 c κs = eq-eqb _ _ (c .count .ensures ∙ ap (λ r. r .count) (new-done (c .before) .new .ensures .0))
+expect-requires-3 c κs = eq-eqb _ _ (c .count .ensures ∙ ap (λ r. r .status .count) (new-done (c .before) .new .ensures .0))
 
 pub fresh-spec : {M : Type 1} → statement M
 fresh-spec =

@@ -6,10 +6,10 @@ use Rattle.conformance.proofs.compare.rows_apart.Statement.{statement}
 use Rattle.conformance.proofs.compare.rows_apart.Tie as tie
 
 abbrev Inv-loop : tie.InvT-loop
-Inv-loop ours count theirs apart₀ i₀ apart i = i ≤ row-limit
+Inv-loop count theirs rows apart₀ i₀ apart i = i ≤ row-limit
 
 abbrev μ-loop : tie.MeasureT-loop
-μ-loop ours count theirs apart₀ i₀ apart i = row-limit - i
+μ-loop count theirs rows apart₀ i₀ apart i = row-limit - i
 
 pub rows-apart-spec : {M : Type 1} → statement M
 rows-apart-spec =
@@ -17,9 +17,11 @@ rows-apart-spec =
     (tie.spec
     Inv-loop
     μ-loop
+    (λ c κs. search needs)  -- rows-requires
     (λ c. search needs)  -- loop-holds
-    (λ c κs. search needs)  -- row-requires
     (λ c. search needs)  -- mul-same-row
+    (λ c. search needs)  -- array-copy-out-same-row
+    (λ c. search needs)  -- mul-same-row-2
     (λ c. search needs)  -- element-copy-out-same-row
     (λ c κs. search needs)  -- same-row-requires
     (λ c κs. search needs)  -- plus-requires

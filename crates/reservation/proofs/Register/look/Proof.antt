@@ -1,86 +1,123 @@
--- `reservation::Register::look` meets its contract: none of the rows passed is on the machine at the tick.
-use mathlib.Core.Path.{sym, _∙_}
-use Prim.Native.Nat.{_-_}
+-- `Register::look` meets its contract: what the first span that ends after the tick says is what the rules see.
+use mathlib.Core.Path.{sym}
+use Prim.Native.Nat.{_<_}
 use native.Mathlib.Omega.{arith}
-use Rattle.rules.specs.Refusals.{running}
-use Rattle.reservation.proofs.Rowwise.{NoneYet, none-at-first, none-more}
-use Rattle.reservation.proofs.Sighted.{sees-no-machine, sees-idle, sees-row}
+use borrow.Author.Needs.{needs}
+use Rattle.rules.specs.Laws.{IsMachine}
+use Rattle.timeline.specs.RowLine.{spans-room}
+use Rattle.timeline.specs.Notes.{AskNote}
+use Rattle.reservation.proofs.Values.{count-few}
+use Rattle.reservation.proofs.Sighted.{sees-no-machine, sees-past, sees-none, sees-its-row, ends-asked, note-asked, label-there}
 use Rattle.reservation.proofs.Register.look.Statement.{statement}
 use Rattle.reservation.proofs.Register.look.Tie as tie
 
-abbrev Inv-loop : tie.InvT-loop
-Inv-loop machine tick self count i₀ i = NoneYet (running machine tick) (self .rows) (self .count) i
+-- The stops that the needs go back to: the start, the tests of the machine passed, a span found, and its note read.
 
-abbrev μ-loop : tie.MeasureT-loop
-μ-loop machine tick self count i₀ i = count - i
+abbrev start : tie.Else2 → tie.Start
+start c = c .before .before .before .before .before
 
--- The stops that the proof goes back to.
+abbrev listed : tie.After-first-after → tie.Else2
+listed c = c .before .before .before .before .before
 
-abbrev start : tie.After-struct-known Inv-loop μ-loop → tie.Start Inv-loop μ-loop
-start c = c .before .before .before .before
+abbrev searched : tie.Else4 → tie.After-first-after
+searched c = c .before .before
 
-returns : tie.Need-returns Inv-loop μ-loop
-returns c = let a = c .before .before .before .args in sees-no-machine (a .t1) (a .machine) (a .tick) (λ is. omega arith)
+abbrev found : tie.Else5 → tie.Else4
+found c = c .before .before
 
-returns-2 : tie.Need-returns-2 Inv-loop μ-loop
-returns-2 c = let a = start (c .before) .args in sees-no-machine (a .t1) (a .machine) (a .tick) (λ is. omega arith)
+abbrev noted : tie.After-note-at → tie.Else5
+noted c = c .before .before .before
 
-loop-holds : tie.Need-loop-holds Inv-loop μ-loop
-loop-holds c = none-at-first (omega arith)
+is-machine : (c : tie.Else2) → IsMachine (start c .args .t1 .setup) (start c .args .machine)
+is-machine c = record { first = c .before .before .if1 .left; last = c .if2 .left }
 
-mul-row : tie.Need-mul-row Inv-loop μ-loop
-mul-row c = omega arith
+-- there is a span that ends after the tick
+below : (c : tie.Else4) → searched c .first-after .result < start (listed (searched c)) .args .t1 .status .count
+below c = let most = searched c .first-after .ensures .at-most in omega (arith, c .if4 .left)
 
-element-copy-out-row : tie.Need-element-copy-out-row Inv-loop μ-loop
-element-copy-out-row c = omega arith
+index-below : (c : tie.Else4) → searched c .first-after .result < spans-room
+index-below c = let few = count-few (start (listed (searched c)) .pre) in omega (arith, below c)
 
-returns-3 : tie.Need-returns-3 Inv-loop μ-loop
-returns-3 c =
-    let at = c .before .before .before .before in
-    let a = start (at .before .before) .args in
-    sees-row
-    (a .t1)
-    (a .machine)
-    (a .tick)
-    (at .before .before .before .if1 .left)
-    (at .before .if2 .left)
-    (at .loop .inv)
-    (c .before .before .before .loop-test .taken)
-    (sym (c .before .runs-at .ensures) ∙ c .if3 .taken)
+returns : tie.Need-returns
+returns c = sees-no-machine _ _ _ (λ is. let h = c .if1 .taken in omega (arith, is .first))
 
-add-i : tie.Need-add-i Inv-loop μ-loop
-add-i c = omega arith
+returns-2 : tie.Need-returns-2
+returns-2 c = sees-no-machine _ _ _ (λ is. let h = c .if2 .taken in omega (arith, is .last))
 
-loop-less : tie.Need-loop-less Inv-loop μ-loop
-loop-less c = omega arith
+returns-3 : tie.Need-returns-3
+returns-3 c = sees-past _ _ _ (start (c .before) .pre) (is-machine (c .before)) (c .if3 .taken)
 
-loop-again : tie.Need-loop-again Inv-loop μ-loop
-loop-again c =
-    none-more
-    (c .before .before .before .before .loop .inv)
-    (c .before .before .before .loop-test .taken)
-    (sym (c .before .runs-at .ensures) ∙ c .if3 .left)
+first-after-requires : tie.Need-first-after-requires
+first-after-requires c κs = ends-asked (start (c .before .before .before .before) .pre)
 
-returns-4 : tie.Need-returns-4 Inv-loop μ-loop
+returns-4 : tie.Need-returns-4
 returns-4 c =
-    let at = c .before in
-    let a = start (at .before .before) .args in
-    sees-idle (a .t1) (a .machine) (a .tick) (at .before .before .before .if1 .left) (at .before .if2 .left) (at .loop .inv) (c .loop-test .left)
+    let search-done = c .before .before in
+    let at = listed search-done in
+    let none = c .if4 .taken in
+    sees-none _ _ _ (start at .pre) (is-machine at) (search-done .first-after .ensures) (λ some. absurd (omega arith))
+
+mul-begin : tie.Need-mul-begin
+mul-begin c = let below = index-below c in search needs
+
+returns-5 : tie.Need-returns-5
+returns-5 c =
+    let span = c .before .before in
+    let at = listed (searched span) in
+    sees-none _ _ _ (start at .pre) (is-machine at) (searched span .first-after .ensures) (λ some. c .if5 .taken)
+
+asked : (c : tie.Else5) → AskNote (start (listed (searched (found c))) .args .t1 .notes) (searched (found c) .first-after .result)
+asked c = note-asked (start (listed (searched (found c))) .pre) (below (found c))
+
+mul-t20 : tie.Need-mul-t20
+mul-t20 c = let below = index-below (found (noted c)) in search needs
+
+mul-row-of : tie.Need-mul-row-of
+mul-row-of c = let below = index-below (found (noted c)) in search needs
+
+row-of-requires : tie.Need-row-of-requires
+row-of-requires c κs =
+    let span = found (noted (c .before)) in
+    label-there (start (listed (searched span)) .pre) (below span) (c .before .note-at .ensures)
+
+returns-6 : tie.Need-returns-6
+returns-6 c =
+    let read = c .before .before in
+    let span = found (noted read) in
+    let at = listed (searched span) in
+    sees-its-row
+    _
+    _
+    _
+    (start at .pre)
+    (is-machine at)
+    (searched span .first-after .ensures)
+    (searched span .before .before .before .before .if3 .left)
+    (below span)
+    (noted read .if5 .left)
+    (read .note-at .ensures)
+    (c .row-of .ensures)
 
 pub look-spec : {M : Type 1} → statement M
 look-spec =
     tie.close
     (tie.spec
-    Inv-loop
-    μ-loop
     returns
     returns-2
-    loop-holds
-    mul-row
-    element-copy-out-row
-    (λ c κs. tt)
     returns-3
-    add-i
-    loop-less
-    loop-again
-    returns-4)
+    (λ c. search needs)
+    (λ c. search needs)
+    (λ c. search needs)
+    first-after-requires
+    returns-4
+    mul-begin
+    index-below
+    returns-5
+    (λ c. sym (asked (c .before .before) .long))
+    (λ c κs. asked (c .before .before))
+    mul-t20
+    (λ c. index-below (found (noted c)))
+    mul-row-of
+    (λ c. index-below (found (noted c)))
+    row-of-requires
+    returns-6)

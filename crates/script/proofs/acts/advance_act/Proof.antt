@@ -1,59 +1,32 @@
--- `script::acts::advance_act` meets its contract.
-use mathlib.Core.Path.{ap, _∙_}
+-- `script::acts::advance_act` meets its contract: what the line reader answers of the part is the act.
+use mathlib.Core.Path.{refl}
 use native.Mathlib.Omega.{arith}
-use lib.ListN.{length-drop}
 use borrow.Author.Needs.{needs}
-use Rattle.lines.specs.Lines.{Due}
 use Rattle.rules.specs.Refusals.{advances}
-use Rattle.reservation.specs.declared.calls.Kind.the-variants.{Advance}
+use Rattle.admission.specs.declared.calls.Kind.the-variants.{Advance}
 use Rattle.script.specs.Keys.{tick-key}
-use Rattle.script.specs.Acts.{unread}
-use Rattle.script.proofs.Acted.{said-call, number-read, number-unread, number-within}
+use Rattle.script.proofs.Acted.{NumberLine, number-line, number-asked}
 use Rattle.script.proofs.acts.advance_act.Statement.{statement}
 use Rattle.script.proofs.acts.advance_act.Tie as tie
 
--- The stops: the start, the line that is due, and the line as it was read.
+-- The stops: the start, and the line as it was read.
 
-abbrev start : tie.After-any-figure → tie.Start
-start c = c .before .before
+abbrev start : tie.After-read-line → tie.Start
+start c = c .before .before .before .before
 
-abbrev due : tie.After-read-line → tie.After-any-figure
-due c = c .before .before
+abbrev line-read : tie.After-known-told → tie.After-read-line
+line-read c = c .before .before .before
 
-abbrev line-read : tie.After-line → tie.After-read-line
-line-read c = c .before .before
-
-read-line-requires : tie.Need-read-line-requires
-read-line-requires c κs =
-    let digits = ap (λ (d : Due). d .digits) (c .before .any-figure .ensures) in
-    record { within = omega arith; digits = omega arith }
+is-act : (c : tie.After-read-line) → let a = start c .args in NumberLine advances Advance tick-key (a .input .now) (a .from) (c .read-line .result)
+is-act c = number-line advances Advance (λ row n. refl) tick-key _ _ (c .before .before .any-figure .ensures) (c .read-line .ensures)
 
 returns : tie.Need-returns
-returns c =
-    let told = c .before .before in
-    let read = told .before .before in
-    let line = due read .any-figure .ensures in
-    let a = start (due read) .args in
-    c .without-call .ensures
-    ∙ ap unread (c .before .reading-number .ensures)
-    ∙ number-unread advances tick-key (a .input .now) (a .from) _ line _ (read .read-line .ensures) _ _ (told .enum-told .given .1)
+returns c = is-act (c .before .before .before) .refuses _ _ _ (c .before .enum-told .given .1) (c .reading-number .ensures)
 
-add-with-number : tie.Need-add-with-number
-add-with-number c =
-    let read = line-read (c .before) in
-    let line = due read .any-figure .ensures in
-    let s = start (due read) in
-    let within = number-within advances tick-key (s .args .input .now) (s .args .from) _ line _ (read .read-line .ensures) _ _ (c .before .line .given .1) in
-    omega (arith, length-drop (s .args .from) (s .args .input .now), s .good)
-
-returns-2 : tie.Need-returns-2
-returns-2 c =
-    let given = c .before .before .line .given in
-    let read = line-read (c .before .before) in
-    let line = due read .any-figure .ensures in
-    let a = start (due read) .args in
-    said-call _ _ (Advance (given .0 .0)) (c .with-number .ensures .0) (c .with-number .ensures .1)
-    ∙ number-read advances tick-key (a .input .now) (a .from) _ line _ (read .read-line .ensures) _ _ (given .1)
+add-t9 : tie.Need-add-t9
+add-t9 c =
+    let s = start (line-read c) in
+    omega (arith, is-act (line-read c) .within _ _ (c .before .line .given .1) (s .pre), s .good)
 
 pub advance-act-spec : {M : Type 1} → statement M
 advance-act-spec =
@@ -63,12 +36,10 @@ advance-act-spec =
     (λ c. search needs)
     (λ c. search needs)
     (λ c. search needs)
-    read-line-requires
+    (λ c κs. number-asked _ (c .before .any-figure .ensures))
     (λ c. search needs)
     (λ c. search needs)
-    (λ c κs. search needs)
     (λ c κs. search needs)
     returns
-    add-with-number
-    (λ c κs. search needs)
-    returns-2)
+    add-t9
+    (λ c. is-act (line-read c) .called _ _ (c .before .line .given .1)))

@@ -9,7 +9,7 @@ use Rattle.lines.specs.Lines.{begins}
 use Rattle.texts.specs.Reader.{default-machines}
 use Rattle.lines.proofs.Lined.{part}
 use Rattle.script.specs.Acts.{submit-line, withdraw-line, clock-line}
-use Rattle.script.proofs.Acted.{at-submit, at-withdraw, at-clock, no-act, act-fits}
+use Rattle.script.proofs.Acted.{at-submit, at-withdraw, at-clock, no-act, act-fits, act-said}
 use Rattle.script.proofs.acts.next_act.Statement.{statement}
 use Rattle.script.proofs.acts.next_act.Tie as tie
 
@@ -54,30 +54,37 @@ second-no c = second (c .before) false (c .if2 .left)
 
 submit-act-requires : tie.Need-submit-act-requires
 submit-act-requires c κs =
-    let s = from-1 (c .before) in
-    act-fits (text s) (s .args .at) (s .pre) submit-line (first (c .before) true (c .if1 .taken))
+    let test = c .before in
+    let s = from-1 (test .before) in
+    record {
+      within = act-fits (text s) (s .args .at) (s .pre .there) submit-line (first (test .before) true (test .if1 .taken));
+      long = s .pre .long;
+    }
 
 returns : tie.Need-returns
 returns c =
-    let s = from-1 (c .before .before) in
-    c .submit-act .ensures ∙ sym (at-submit default-machines (text s) (s .args .at) (s .pre) (first (c .before .before) true (c .before .if1 .taken)))
+    let test = c .before .before in
+    let s = from-1 (test .before) in
+    let is = at-submit default-machines (text s) (s .args .at) (s .pre .there) (first (test .before) true (test .if1 .taken)) in
+    act-said is (c .submit-act .ensures .long) (c .submit-act .ensures .says)
 
 withdraw-act-requires : tie.Need-withdraw-act-requires
 withdraw-act-requires c κs =
     let s = from-2 (c .before) in
-    act-fits (text s) (s .args .at) (s .pre) withdraw-line (second (c .before) true (c .if2 .taken))
+    act-fits (text s) (s .args .at) (s .pre .there) withdraw-line (second (c .before) true (c .if2 .taken))
 
 returns-2 : tie.Need-returns-2
 returns-2 c =
     let compared = c .before .before in
     let s = from-2 compared in
     let yes = second compared true (c .before .if2 .taken) in
-    c .withdraw-act .ensures ∙ sym (at-withdraw default-machines (text s) (s .args .at) (s .pre) (first-no (compared .before .before)) yes)
+    let is = at-withdraw default-machines (text s) (s .args .at) (s .pre .there) (first-no (compared .before .before)) yes in
+    act-said is (s .pre .long) (c .withdraw-act .ensures _)
 
 advance-act-requires : tie.Need-advance-act-requires
 advance-act-requires c κs =
     let s = from-3 (c .before) in
-    act-fits (text s) (s .args .at) (s .pre) clock-line (third (c .before) true (c .if3 .taken))
+    act-fits (text s) (s .args .at) (s .pre .there) clock-line (third (c .before) true (c .if3 .taken))
 
 returns-3 : tie.Need-returns-3
 returns-3 c =
@@ -85,15 +92,19 @@ returns-3 c =
     let s = from-3 compared in
     let no = compared .before .before in
     let yes = third compared true (c .before .if3 .taken) in
-    c .advance-act .ensures ∙ sym (at-clock default-machines (text s) (s .args .at) (s .pre) (first-no (no .before .before .before)) (second-no no) yes)
+    let is = at-clock default-machines (text s) (s .args .at) (s .pre .there) (first-no (no .before .before .before)) (second-no no) yes in
+    act-said is (s .pre .long) (c .advance-act .ensures _)
 
 returns-4 : tie.Need-returns-4
 returns-4 c =
-    let compared = c .before .before in
+    let compared = c .before in
     let s = from-3 compared in
     let no = compared .before .before in
-    let none = third compared false (c .before .if3 .left) in
-    c .without-call .ensures ∙ sym (no-act default-machines (text s) (s .args .at) (s .pre) (first-no (no .before .before .before)) (second-no no) none)
+    let none = third compared false (c .if3 .left) in
+    record {
+      long = s .pre .long;
+      says = no-act default-machines (text s) (s .args .at) (s .pre .there) (first-no (no .before .before .before)) (second-no no) none;
+    }
 
 pub next-act-spec : {M : Type 1} → statement M
 next-act-spec =
@@ -117,5 +128,4 @@ next-act-spec =
     (λ c. search needs)
     advance-act-requires
     returns-3
-    (λ c κs. search needs)
     returns-4)

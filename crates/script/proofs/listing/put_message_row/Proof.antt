@@ -1,5 +1,5 @@
 -- `script::listing::put_message_row` meets its contract: seven fields, one after the other.
-use Prim.Native.Nat.{_+_, _-_, _≤_}
+use Prim.Native.Nat.{_+_, _≤_}
 use native.Mathlib.Omega.{arith}
 use lib.ListN.{length}
 use borrow.Author.Needs.{needs}
@@ -20,7 +20,7 @@ abbrev output-1 : tie.After-put-any-field2 → tie.After-output
 output-1 c = c .before .before .before .before
 
 abbrev output-2 : tie.After-put-any-field3 → tie.After-output2
-output-2 c = c .before .before .before .before
+output-2 c = c .before .before .before .before .before
 
 abbrev output-3 : tie.After-put-any-field4 → tie.After-output3
 output-3 c = c .before .before .before .before
@@ -29,21 +29,23 @@ abbrev output-4 : tie.After-put-any-field5 → tie.After-output4
 output-4 c = c .before .before .before .before
 
 abbrev output-5 : tie.After-put-any-field6 → tie.After-output5
-output-5 c = c .before .before .before .before
+output-5 c = c .before .before .before .before .before
 
 abbrev output-6 : tie.After-put-any-field7 → tie.After-output6
-output-6 c = c .before .before .before .before
+output-6 c = c .before .before .before .before .before
 
-abbrev first : tie.After-put-any-field6 → tie.After-put-any-field
-first c = output-1 (output-2 (output-3 (output-4 (output-5 c .before) .before) .before) .before) .before
+abbrev first : tie.After-put-any-field5 → tie.After-put-any-field
+first c = output-1 (output-2 (output-3 (output-4 c .before) .before) .before) .before
 
--- the room that the first field leaves
-left : (c : tie.After-put-any-field) → c .put-any-field .result + (most-row - field-room link-key) ≤ length (c .put-any-field .last .0)
+-- the room that the first four fields leave
+left :
+    (c : tie.After-put-any-field4) →
+    c .put-any-field4 .result + (field-room task-key + field-room start-key + field-room finish-key) ≤ length (c .put-any-field4 .last .0)
 left c = search needs
 
 written :
     (c : tie.After-put-any-field7) →
-    let a = start (first (output-6 c .before)) .args in
+    let a = start (first (output-5 (output-6 c .before) .before)) .args in
     PutWithin
     (a .output .now)
     (a .at)
@@ -57,8 +59,8 @@ written c =
     let fourth = output-4 fifth .before in
     let third = output-3 fourth .before in
     let second = output-2 third .before in
-    let room = start (first sixth) .pre in
-    let one = first-field link-key (omega arith) (first sixth .put-any-field .ensures) in
+    let room = start (first fifth) .pre in
+    let one = first-field link-key (omega arith) (first fifth .put-any-field .ensures) in
     let two = within-field to-key (omega arith) one (second .put-any-field2 .ensures) in
     let three = within-field job-key (omega arith) two (third .put-any-field3 .ensures) in
     let four = within-field from-key (omega arith) three (fourth .put-any-field4 .ensures) in
@@ -75,7 +77,6 @@ put-message-row-spec =
     (λ c. search needs)
     (λ c κs. search needs)
     (λ c. search needs)
-    (λ c κs. search needs)
     (λ c. search needs)
     (λ c κs. search needs)
     (λ c. search needs)
@@ -83,6 +84,10 @@ put-message-row-spec =
     (λ c. search needs)
     (λ c κs. search needs)
     (λ c. search needs)
-    (λ c κs. search (left (first (c .before .before .before .before)), needs))
+    (λ c. search needs)
+    (λ c κs. search (left (output-4 (c .before .before .before .before .before) .before), needs))
+    (λ c. search needs)
+    (λ c. search needs)
+    (λ c κs. search (left (output-4 (output-5 (c .before .before .before .before .before) .before) .before), needs))
     (λ c. written (c .before .before) .long)
     (λ c. at-most (written (c .before .before))))

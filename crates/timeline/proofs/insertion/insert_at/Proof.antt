@@ -5,7 +5,7 @@ use Rattle.timeline.proofs.insertion.insert_at.Statement.{statement}
 use Rattle.timeline.proofs.insertion.insert_at.Tie as tie
 
 abbrev Inv-loop : tie.InvT-loop
-Inv-loop values₀ count at value i₀ values i = Shifted values₀ count at values i
+Inv-loop values₀ count at value i₀ values i = Shifted 1 values₀ count at values i
 
 abbrev μ-loop : tie.MeasureT-loop
 μ-loop values₀ count at value i₀ values i = i

@@ -1,2 +1,0 @@
--- What the contracts of the tests cite beside the rules.
-pub mod Tests

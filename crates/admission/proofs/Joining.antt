@@ -12,8 +12,8 @@ use Rattle.timeline.specs.declared.notes.Note.{Note}
 use Rattle.timeline.specs.RowLine.{spans-room, note-size, line-of, column, notes-of, GoesAt, AskInsert, InsertedAt}
 use Rattle.timeline.specs.Notes.{AskInsertNote, NoteInserted}
 use Rattle.timeline.proofs.Columns.{column-inserted, noted-of, notes-inserted}
-use Rattle.drcd.specs.declared.own.Entry.{Entry}
-use Rattle.drcd.specs.Own.{entry-at, entry-for, OwnRows}
+use Rattle.placement.specs.declared.own.Entry.{Entry}
+use Rattle.placement.specs.Own.{entry-at, entry-for, OwnRows}
 use Rattle.timetable.specs.Marks.{JobsOf}
 use Rattle.admission.specs.Submitted.{AskJoin, JoinedIs}
 use Rattle.admission.proofs.Owning.{rows-to, rows-none, rows-all, line-to-long, line-to-more}

@@ -20,9 +20,9 @@ use Rattle.rules.proofs.Bounds.{scheduling-figure}
 use Rattle.rules.proofs.Demand1.{demand-1}
 use Rattle.timeline.specs.RowLine.{most-own, row-end}
 use Rattle.figures.specs.Rows.{SchedulingIs}
-use Rattle.drcd.specs.declared.place.Placement.{Placement}
-use Rattle.drcd.specs.Own.{entry-size, owned, OwnRows}
-use Rattle.drcd.specs.Placements.{Placeable, AskPlace, Placed, PlacedIs}
+use Rattle.placement.specs.declared.place.Placement.{Placement}
+use Rattle.placement.specs.Own.{entry-size, owned, OwnRows}
+use Rattle.placement.specs.Placements.{Placeable, AskPlace, Placed, PlacedIs}
 use Rattle.timetable.specs.declared.Status.{Status}
 use Rattle.admission.specs.Submitted.{AskSettle, Settled, SettledIs, Undoable, AskUndo, Undone, Judging, AskJudged, Admission, JudgedIs}
 use Rattle.admission.proofs.Admitting.{carry-new}

@@ -16,8 +16,8 @@ use Rattle.rules.specs.Bounds.{RowInRange}
 use Rattle.rules.proofs.Sequences.{getD-mem}
 use Rattle.timeline.specs.Timeline.{tick-room}
 use Rattle.timeline.specs.RowLine.{row-end}
-use Rattle.drcd.specs.declared.own.Entry.{Entry}
-use Rattle.drcd.specs.Own.{entry-at, OwnRows}
+use Rattle.placement.specs.declared.own.Entry.{Entry}
+use Rattle.placement.specs.Own.{entry-at, OwnRows}
 use Rattle.timetable.specs.Derived.{most-of}
 use Rattle.admission.specs.Submitted.{LastIs}
 

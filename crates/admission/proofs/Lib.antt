@@ -10,4 +10,3 @@ pub mod NewRows
 pub mod Judging
 pub mod Submitting
 pub mod Submitted
-pub mod Calling

@@ -20,9 +20,9 @@ use Rattle.rules.proofs.Tests.{LeftAfter, in-range-passed, held-passed, feasibl
 use Rattle.rules.proofs.Demand1.{submit-answered}
 use Rattle.rules.proofs.Admitted.{answer-passed}
 use Rattle.screening.proofs.Firsts.{first-answers}
-use Rattle.drcd.specs.declared.place.Placement.{Placement}
-use Rattle.drcd.specs.Placements.{placing-of, Placed}
-use Rattle.drcd.proofs.Placed.{placing-late}
+use Rattle.placement.specs.declared.place.Placement.{Placement}
+use Rattle.placement.specs.Placements.{placing-of, Placed}
+use Rattle.placement.proofs.Placed.{placing-late}
 use Rattle.admission.specs.Submitted.{Passed, Settled, SettledIs}
 
 -- The answers by what placing gives.

@@ -15,6 +15,7 @@ use Rattle.timetable.specs.declared.Outcome.{Outcome}
 use Rattle.timetable.specs.Timetables.{Long}
 use Rattle.admission.specs.Submitted.{AskTested, TestedIs, Tested, Judging, AskJudged, Judged, JudgedIs, LastIs, AskJoin, JoinedIs, Submission, AskSubmit, SubmitIs}
 use Rattle.timetable.proofs.Removed.{timetable-long}
+use Rattle.timetable.proofs.Left.{SameLong, same-long}
 use Rattle.admission.proofs.Submitting.{refused-same, refused-undone, count-fits, total-fits, join-asked, found, submitted}
 
 module _ {s : Setup} {st : State} {j : Job} {table row begins ends jobs notes : List ℕ} {status : Status}
@@ -44,6 +45,12 @@ module _ {table row own begins ends jobs notes : List ℕ} {status : Status} (as
   -- the columns have their lengths
   long : Long begins ends jobs notes
   long = timetable-long (asked .submission .timetable)
+
+  -- and keep them
+  pub submitted-long :
+      {own′ begins′ ends′ jobs′ notes′ : List ℕ} {r : Outcome} → SubmitIs table row begins ends jobs notes status own′ begins′ ends′ jobs′ notes′ r →
+      SameLong begins ends jobs notes begins′ ends′ jobs′ notes′
+  submitted-long done = same-long long (done .long)
 
   pub tested-asked : AskTested table row jobs status
   tested-asked =

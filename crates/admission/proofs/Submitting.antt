@@ -15,11 +15,10 @@ use Rattle.rules.specs.Refusals.{submits, step}
 use Rattle.rules.specs.Bounds.{Bounded}
 use Rattle.rules.proofs.Bounds.{bounded-step}
 use Rattle.rules.proofs.Demand1.{demand-1}
-use Rattle.timeline.specs.RowLine.{spans-room, line-of, notes-of}
+use Rattle.timeline.specs.RowLine.{spans-room, line-of, notes-of, SpansOf}
 use Rattle.timeline.proofs.Line.{line-long, line-from}
 use Rattle.timeline.proofs.Columns.{column-long, notes-long}
-use Rattle.drcd.specs.Appending.{SpansOf}
-use Rattle.drcd.proofs.Placed.{costs-at-most}
+use Rattle.placement.proofs.Placed.{costs-at-most}
 use Rattle.timetable.specs.declared.Status.{Status}
 use Rattle.timetable.specs.Derived.{most-of, never, last-finish, soonest-end}
 use Rattle.timetable.specs.Timetables.{TimetableOf}

@@ -25,7 +25,7 @@ use Rattle.screening.specs.Screens.{SomeLayout, ScreenedIs, AskInfeasibles, Fir
 use Rattle.timetable.specs.declared.Status.{Status}
 use Rattle.timetable.specs.Marks.{JobsOf, HeldIs}
 use Rattle.admission.specs.Submitted.{AskTested, TestedIs}
-use Rattle.drcd.proofs.Turning.{named-none}
+use Rattle.placement.proofs.Turning.{named-none}
 use Rattle.timetable.proofs.Lines.{any-line}
 
 names-one : {o : Option ℕ} (t : ℕ) → (t ≡ 0 → ⊥) → named t ≡ o → o ≡ some t

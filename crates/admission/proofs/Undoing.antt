@@ -7,11 +7,10 @@ use lib.ListN.{length, getD}
 use Rattle.rules.specs.declared.Row.{Row}
 use Rattle.rules.specs.Words.{held-by}
 use Rattle.rules.specs.Placing.{no-row}
-use Rattle.timeline.specs.RowLine.{spans-room, row-begin, row-end, insert-row, line-of, GoesAt, AskRemoveAt, RemovedAt}
+use Rattle.timeline.specs.RowLine.{spans-room, row-begin, row-end, insert-row, line-of, GoesAt, AskRemoveAt, RemovedAt, SpansOf}
 use Rattle.timeline.proofs.Columns.{column-long, column-removed}
-use Rattle.drcd.specs.declared.own.Entry.{Entry}
-use Rattle.drcd.specs.Own.{entry-at}
-use Rattle.drcd.specs.Appending.{SpansOf}
+use Rattle.placement.specs.declared.own.Entry.{Entry}
+use Rattle.placement.specs.Own.{entry-at}
 use Rattle.admission.specs.Submitted.{Undoable, AskUndo, Undone}
 use Rattle.admission.proofs.Owning.{rows-to, rows-none, rows-all, line-to-long, line-to-more}
 

@@ -1,3 +1,2 @@
--- What the contracts of admission cite: what a submission, and a call of any kind, over lent columns give.
+-- What the contracts of admission cite: what a submission over lent columns gives.
 pub mod Submitted
-pub mod Called

@@ -14,13 +14,12 @@ use Rattle.rules.specs.Withdrawing.{admit}
 use Rattle.rules.specs.Refusals.{submits, step, first-infeasible}
 use Rattle.rules.specs.Demands.{InRange}
 use Rattle.rules.specs.Bounds.{Sound, RowInRange, Bounded}
-use Rattle.timeline.specs.RowLine.{most-own, spans-room, note-size, line-of, notes-of}
+use Rattle.timeline.specs.RowLine.{most-own, spans-room, note-size, line-of, notes-of, SpansOf}
 use Rattle.figures.specs.Rows.{RowOf}
 use Rattle.figures.specs.Tables.{TableOf}
-use Rattle.drcd.specs.Own.{owned, OwnRows}
-use Rattle.drcd.specs.Appending.{SpansOf}
-use Rattle.drcd.specs.Placements.{Placed}
-use Rattle.drcd.specs.declared.place.Placement.{Placement}
+use Rattle.placement.specs.Own.{owned, OwnRows}
+use Rattle.placement.specs.Placements.{Placed}
+use Rattle.placement.specs.declared.place.Placement.{Placement}
 use Rattle.timetable.specs.declared.Status.{Status}
 use Rattle.timetable.specs.declared.Outcome.{Outcome}
 use Rattle.timetable.specs.Derived.{most-of}

@@ -1,3 +1,2 @@
-// Submissions over a timetable that is lent as columns, and one call of any kind.
-pub mod calls;
+// Submissions over a timetable that is lent as columns.
 pub mod submission;

@@ -1,13 +1,13 @@
 // Submissions: refusals 1 to 8 in their order, or the job's rows join the timetable.
-use drcd::own::OWNED;
-use drcd::own::entry_at;
-use drcd::place::Placement;
-use drcd::place::place;
 use figures::jobs::layout_of;
 use figures::jobs::number_of;
 use figures::jobs::scheduling_of;
 use figures::tables::TABLE;
 use figures::tables::machines_of;
+use placement::own::OWNED;
+use placement::own::entry_at;
+use placement::place::Placement;
+use placement::place::place;
 use rules::Answer;
 use rules::ROWS;
 use screening::first_infeasible;

@@ -1,12 +1,12 @@
 // Calls that print their answers and hand on the register that they leave. What a refusal leaves is checked.
 use crate::printing::print_answer;
 use crate::printing::print_seen;
-use admission::calls::Kind;
 use check::expect;
 use reservation::Register;
 use reservation::Reply;
 use reservation::calls::Call;
 use rules::Job;
+use rules::Kind;
 ghost use Rattle.reservation.specs.Registers.{Valid};
 ghost use Rattle.booking.specs.Untouched.{Untouched};
 

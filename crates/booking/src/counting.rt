@@ -1,11 +1,9 @@
 // Submissions in a row with one tally: its counters and their ratio before the first and after each.
 use crate::calls::fresh;
-use crate::jobs::alone;
-use crate::jobs::easy;
-use crate::jobs::unrunnable;
 use crate::printing::figure;
 use crate::printing::heading;
 use crate::printing::print_answer;
+use builder::alone;
 use reservation::Register;
 use rules::Job;
 use tally::Counted;
@@ -13,6 +11,8 @@ use tally::Ratio;
 use tally::Tally;
 use tally::guarantee_ratio;
 use tally::submit_tallied;
+use workload::limits::easy;
+use workload::refused::unrunnable;
 ghost use Rattle.reservation.specs.Registers.{Valid};
 
 // The most that a counter holds.

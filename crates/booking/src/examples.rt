@@ -3,18 +3,18 @@ use crate::calls::advance;
 use crate::calls::fresh;
 use crate::calls::submit;
 use crate::calls::withdraw;
-use crate::jobs::alone;
-use crate::jobs::job_a;
-use crate::jobs::job_e;
-use crate::jobs::job_h;
-use crate::jobs::job_k;
-use crate::jobs::largest;
-use crate::jobs::later;
-use crate::jobs::sixteen;
-use crate::jobs::task;
 use crate::printing::heading;
 use crate::printing::print_register;
+use builder::alone;
+use builder::alone_after;
+use builder::task;
 use rules::Job;
+use workload::examples::job_a;
+use workload::examples::job_e;
+use workload::examples::job_h;
+use workload::examples::job_k;
+use workload::limits::largest;
+use workload::limits::sixteen;
 
 // A job in a fresh register.
 fn shown(name: &[u8], job: Job) {
@@ -32,7 +32,7 @@ fn shown_after_b(name: &[u8], job: Job) {
 fn shown_least(name: &[u8], len: u64) {
     heading(name);
     let with_b = submit(fresh(), job_a(5));
-    let with_both = submit(with_b, later(9, 9, task(12, 0, [3, 0, 0, 0])));
+    let with_both = submit(with_b, alone_after(9, 9, task(12, 0, [3, 0, 0, 0])));
     print_register(submit(with_both, alone(8, task(1_000, 0, [len, 0, 0, 0]))));
 }
 
@@ -40,7 +40,7 @@ fn shown_least(name: &[u8], len: u64) {
 fn shown_k_beside() {
     heading(b"K-beside-two-rows");
     let with_b = submit(fresh(), job_a(5));
-    let with_both = submit(with_b, later(6, 15, task(20, 0, [0, 5, 0, 0])));
+    let with_both = submit(with_b, alone_after(6, 15, task(20, 0, [0, 5, 0, 0])));
     print_register(submit(with_both, job_k(8)));
 }
 
@@ -56,7 +56,8 @@ fn shown_l() {
     print_register(ended);
 }
 
-pub fn worked_examples() {
+// One task.
+fn of_one_task() {
     shown(b"A", job_a(10));
     shown(b"B", job_a(5));
     shown(b"C", job_a(2));
@@ -64,12 +65,24 @@ pub fn worked_examples() {
     shown_after_b(b"E", job_e());
     shown_least(b"F", 4);
     shown_least(b"G", 5);
+}
+
+// Tasks that send to each other.
+fn of_messages() {
     shown(b"H", job_h(16, 3));
     shown(b"I", job_h(15, 3));
     shown(b"J", job_h(16, 0));
     shown(b"K", job_k(7));
     shown_k_beside();
+}
+
+pub fn worked_examples() {
+    of_one_task();
+    of_messages();
     shown_l();
+}
+
+pub fn jobs_at_limits() {
     shown(b"sixteen", sixteen());
     shown(b"largest", largest(1_000_000));
 }

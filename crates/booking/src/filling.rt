@@ -2,14 +2,14 @@
 use crate::calls::advance;
 use crate::calls::submit;
 use crate::calls::withdraw;
-use crate::jobs::alone;
-use crate::jobs::one_row;
-use crate::jobs::task;
-use crate::jobs::three_rows;
 use crate::printing::heading;
 use crate::printing::print_answer;
 use crate::printing::print_state;
+use builder::alone;
+use builder::task;
 use reservation::Register;
+use workload::examples::one_row;
+use workload::examples::three_rows;
 ghost use Rattle.reservation.specs.Registers.{Valid};
 
 // Jobs of one row, with the numbers from `first` up to `end` and not `end`, or up to the first that is refused, whose answer is printed.

@@ -3,13 +3,13 @@ mod calls;
 mod counting;
 mod examples;
 mod filling;
-mod jobs;
 mod printing;
 mod refusals;
 
 use calls::fresh;
 use counting::at_the_limit;
 use counting::from_nothing;
+use examples::jobs_at_limits;
 use examples::worked_examples;
 use filling::emptied;
 use filling::filled;
@@ -29,6 +29,7 @@ use refusals::of_withdrawals;
 // One register after the worked examples: each part is handed what the last one left. The tally's parts have registers of their own.
 fn main() {
     worked_examples();
+    jobs_at_limits();
     let mut left = fresh();
     left = by_counts(left);
     left = by_figures(left);

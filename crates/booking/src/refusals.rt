@@ -4,29 +4,32 @@ use crate::calls::apply;
 use crate::calls::look;
 use crate::calls::submit;
 use crate::calls::withdraw;
-use crate::jobs::alone;
-use crate::jobs::easy;
-use crate::jobs::job;
-use crate::jobs::job_a;
-use crate::jobs::job_h;
-use crate::jobs::largest;
-use crate::jobs::largest_with_task;
-use crate::jobs::largest_with_volume;
-use crate::jobs::message;
-use crate::jobs::slow;
-use crate::jobs::task;
-use crate::jobs::trio;
-use crate::jobs::unrunnable;
-use crate::jobs::with_counts;
-use crate::jobs::with_message;
-use crate::jobs::with_task;
 use crate::printing::heading;
 use crate::printing::print_state;
-use admission::calls::Kind;
+use builder::alone;
+use builder::numbered;
 use reservation::Register;
+use rules::Kind;
+use workload::draws::GREATEST;
+use workload::examples::job_a;
+use workload::examples::job_h;
+use workload::limits::easy;
+use workload::limits::largest;
+use workload::refused::Batch;
+use workload::refused::job_of_batch;
 ghost use Rattle.reservation.specs.Registers.{Valid};
 
-const GREATEST: u64 = 18_446_744_073_709_551_615;
+// The jobs of a batch from the place `first` up to `end` and not `end`.
+fn submit_each(register: Register, batch: Batch, first: u64, end: u64) -> Register
+    requires { ⌜ Valid register ⌝ }
+    ensures { λ r. ⌜ Valid r ⌝ }
+{
+    let mut left = register;
+    for place in first..end {
+        left = submit(left, job_of_batch(batch, place));
+    }
+    left
+}
 
 // 1 and 2.
 pub fn by_counts(register: Register) -> Register
@@ -34,17 +37,7 @@ pub fn by_counts(register: Register) -> Register
     ensures { λ r. ⌜ Valid r ⌝ }
 {
     heading(b"numbers and counts");
-    let mut left = submit(register, alone(0, easy()));
-    left = submit(left, alone(65_536, easy()));
-    left = submit(left, alone(GREATEST, easy()));
-    left = submit(left, alone(1, easy()));
-    left = submit(left, with_counts(7, 0, 0));
-    left = submit(left, with_counts(7, 17, 0));
-    left = submit(left, with_counts(7, GREATEST, 0));
-    left = submit(left, with_counts(7, 16, 33));
-    left = submit(left, with_counts(7, 16, GREATEST));
-    left = submit(left, with_counts(7, 16, 32));
-    left = submit(left, with_counts(8, 1, 0));
+    let mut left = submit_each(register, Batch::Counts, 0, 11);
     print_state(left);
     left = withdraw(left, 7);
     print_state(left);
@@ -60,11 +53,7 @@ pub fn by_figures(register: Register) -> Register
     let mut left = submit(register, largest(1_000_000));
     print_state(left);
     left = withdraw(left, 65_535);
-    left = submit(left, largest(1_000_001));
-    left = submit(left, largest(GREATEST));
-    left = submit(left, largest_with_volume(1_001));
-    left = submit(left, largest_with_volume(GREATEST));
-    left = submit(left, alone(9, task(1, 0, [0, 0, 1, 0])));
+    left = submit_each(left, Batch::Figures, 0, 5);
     print_state(left);
     left
 }
@@ -75,34 +64,7 @@ pub fn by_figures_of_tasks(register: Register) -> Register
     ensures { λ r. ⌜ Valid r ⌝ }
 {
     heading(b"figures of tasks");
-    let mut left = submit(register, largest_with_task(task(0, 0, [1, 1, 1, 1])));
-    left = submit(
-        left,
-        largest_with_task(task(1_000_000_001, 0, [1, 1, 1, 1])),
-    );
-    left = submit(left, largest_with_task(task(GREATEST, 0, [1, 1, 1, 1])));
-    left = submit(
-        left,
-        largest_with_task(task(1_000, 1_000_001, [1, 1, 1, 1])),
-    );
-    left = submit(left, largest_with_task(task(1_000, GREATEST, [1, 1, 1, 1])));
-    left = submit(
-        left,
-        largest_with_task(task(1_000, 0, [1_000_001, 1, 1, 1])),
-    );
-    left = submit(
-        left,
-        largest_with_task(task(1_000, 0, [1, 1_000_001, 1, 1])),
-    );
-    left = submit(
-        left,
-        largest_with_task(task(1_000, 0, [1, 1, 1_000_001, 1])),
-    );
-    left = submit(
-        left,
-        largest_with_task(task(1_000, 0, [1, 1, 1, 1_000_001])),
-    );
-    left = submit(left, largest_with_task(task(1_000, 0, [1, 1, 1, GREATEST])));
+    let left = submit_each(register, Batch::LastTask, 0, 10);
     print_state(left);
     left
 }
@@ -113,22 +75,7 @@ pub fn by_messages(register: Register) -> Register
     ensures { λ r. ⌜ Valid r ⌝ }
 {
     heading(b"messages");
-    let mut left = submit(register, trio(message(2, 2, 0)));
-    left = submit(left, trio(message(3, 2, 0)));
-    left = submit(left, trio(message(GREATEST, 2, 0)));
-    left = submit(left, trio(message(0, 2, 0)));
-    left = submit(left, trio(message(3, 4, 0)));
-    left = submit(left, trio(message(1, GREATEST, 0)));
-    left = submit(left, trio(message(4, 5, 0)));
-    let first = trio(message(1, 2, 0));
-    left = submit(left, with_message(first, message(1, 2, 5)));
-    let second = with_message(first, message(2, 3, 0));
-    left = submit(left, with_message(second, message(1, 3, 0)));
-    left = submit(left, with_message(trio(message(1, 3, 0)), message(1, 2, 0)));
-    left = submit(
-        left,
-        with_message(with_message(first, message(1, 3, 0)), message(2, 3, 0)),
-    );
+    let left = submit_each(register, Batch::Messages, 0, 11);
     print_state(left);
     left
 }
@@ -139,18 +86,7 @@ pub fn by_order(register: Register) -> Register
     ensures { λ r. ⌜ Valid r ⌝ }
 {
     heading(b"order");
-    let mut left = submit(register, job(0));
-    left = submit(left, slow(7));
-    left = submit(left, with_task(slow(7), easy()));
-    let dated = alone(7, task(0, 0, [1, 0, 0, 0]));
-    left = submit(left, with_message(dated, message(1, 1, 0)));
-    left = submit(left, with_message(alone(7, easy()), message(1, 1, 0)));
-    left = submit(left, alone(7, easy()));
-    left = submit(left, alone(7, unrunnable()));
-    left = submit(left, alone(10, unrunnable()));
-    let late = alone(10, task(10, 11, [1, 0, 0, 0]));
-    left = submit(left, with_task(late, unrunnable()));
-    left = submit(left, with_task(late, easy()));
+    let left = submit_each(register, Batch::Order, 0, 10);
     print_state(left);
     left
 }
@@ -161,21 +97,9 @@ pub fn by_turns(register: Register) -> Register
     ensures { λ r. ⌜ Valid r ⌝ }
 {
     heading(b"turns");
-    let short = task(3, 0, [0, 0, 0, 4]);
-    let mut left = submit(
-        register,
-        with_task(with_task(alone(10, easy()), short), short),
-    );
-    left = submit(left, alone(10, task(4, 1, [0, 0, 0, 4])));
-    left = submit(left, alone(10, task(4, 0, [0, 0, 0, 4])));
-    let first = alone(11, task(12, 20, [1, 0, 0, 0]));
-    left = submit(left, with_task(first, task(11, 20, [1, 0, 0, 0])));
-    left = submit(left, with_task(first, task(12, 20, [1, 0, 0, 0])));
-    let waiting = alone(11, task(30, 2, [4, 4, 0, 0]));
-    let both = with_task(waiting, task(20, 3, [0, 2, 2, 0]));
-    left = submit(left, both);
+    let mut left = submit_each(register, Batch::Turns, 0, 6);
     left = withdraw(left, 11);
-    left = submit(left, with_message(both, message(1, 2, 1)));
+    left = submit_each(left, Batch::Turns, 6, 7);
     print_state(left);
     left
 }
@@ -195,8 +119,14 @@ pub fn of_withdrawals(register: Register) -> Register
     left = withdraw(left, 1);
     left = submit(left, alone(12, easy()));
     print_state(left);
-    left = advance(left, 4);
-    left = withdraw(left, 10);
+    of_later_withdrawals(advance(left, 4))
+}
+
+fn of_later_withdrawals(register: Register) -> Register
+    requires { ⌜ Valid register ⌝ }
+    ensures { λ r. ⌜ Valid r ⌝ }
+{
+    let mut left = withdraw(register, 10);
     left = withdraw(left, 8);
     left = withdraw(left, 12);
     left = withdraw(left, 7);
@@ -221,25 +151,38 @@ pub fn looks(register: Register)
     look(register, 4, GREATEST);
 }
 
+// The clock is moved by the call of any kind.
+fn move_to(register: Register, tick: u64) -> Register
+    requires { ⌜ Valid register ⌝ }
+    ensures { λ r. ⌜ Valid r ⌝ }
+{
+    apply(register, Kind::Advance(tick), numbered(0))
+}
+
 // 11 and 12, by the call of any kind.
 pub fn of_advances(register: Register) -> Register
     requires { ⌜ Valid register ⌝ }
     ensures { λ r. ⌜ Valid r ⌝ }
 {
     heading(b"advances");
-    let none = job(0);
-    let mut left = apply(register, Kind::Advance(3), none);
-    left = apply(left, Kind::Advance(4), none);
-    left = apply(left, Kind::Advance(1_000_000_001), none);
-    left = apply(left, Kind::Advance(GREATEST), none);
+    let mut left = move_to(register, 3);
+    left = move_to(left, 4);
+    left = move_to(left, 1_000_000_001);
+    left = move_to(left, GREATEST);
     left = apply(left, Kind::Submit, job_a(10));
-    left = apply(left, Kind::Withdraw(7), none);
-    left = apply(left, Kind::Advance(15), none);
+    left = apply(left, Kind::Withdraw(7), numbered(0));
+    left = move_to(left, 15);
     print_state(left);
-    left = apply(left, Kind::Advance(21), none);
+    of_later_advances(left)
+}
+
+fn of_later_advances(register: Register) -> Register
+    requires { ⌜ Valid register ⌝ }
+    ensures { λ r. ⌜ Valid r ⌝ }
+{
+    let mut left = move_to(register, 21);
     print_state(left);
     left = apply(left, Kind::Submit, job_a(40));
-    left = apply(left, Kind::Advance(50), none);
-    left = apply(left, Kind::Withdraw(7), none);
-    left
+    left = move_to(left, 50);
+    apply(left, Kind::Withdraw(7), numbered(0))
 }

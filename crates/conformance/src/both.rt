@@ -10,7 +10,6 @@ use crate::counts::differing;
 use crate::counts::holding;
 use crate::counts::seen_booked;
 use crate::counts::seen_idle;
-use crate::draws::plus;
 use reference::Book;
 use reference::RefReply;
 use reference::RefSeen;
@@ -22,6 +21,7 @@ use tally::Ratio;
 use tally::Tally;
 use tally::counted_of;
 use tally::guarantee_ratio;
+use workload::draws::plus;
 ghost use Rattle.reservation.specs.Registers.{Valid};
 
 pub struct Both {

@@ -4,18 +4,18 @@ use crate::both::advance;
 use crate::both::look;
 use crate::both::submit;
 use crate::both::withdraw;
-use crate::draws::GREATEST;
-use crate::draws::draw;
-use crate::draws::minus;
-use crate::draws::next_seed;
-use crate::draws::plus;
-use crate::draws::rarely;
-use crate::jobs::made_up_job;
-use crate::shapes::Shape;
 use reference::Book;
 use reference::RefRow;
 use reference::no_row;
 use reservation::Register;
+use workload::drawn::made_up_job;
+use workload::draws::GREATEST;
+use workload::draws::draw;
+use workload::draws::minus;
+use workload::draws::next_seed;
+use workload::draws::plus;
+use workload::draws::rarely;
+use workload::shapes::Shape;
 ghost use Rattle.reservation.specs.Registers.{Valid};
 
 // The next call of a list.

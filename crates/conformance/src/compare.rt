@@ -1,5 +1,4 @@
 // What the two schedulers answered and hold, compared figure by figure. Each function says whether two values are the same, or counts the differences.
-use crate::draws::plus;
 use reference::Book;
 use reference::RefAnswer;
 use reference::RefRow;
@@ -13,6 +12,7 @@ use rules::tables::default_setup;
 use rules::tables::machine_rate;
 use rules::tables::transfer_rate;
 use rules::tables::transfer_time;
+use workload::draws::plus;
 ghost use Prim.Native.Nat.{_≤_};
 
 pub fn same_answer(ours: Answer, theirs: RefAnswer) -> bool {

@@ -1,5 +1,5 @@
 // What is counted over all lists.
-use crate::draws::plus;
+use workload::draws::plus;
 
 pub struct Counts {
     pub calls: u64,

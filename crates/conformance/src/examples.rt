@@ -8,22 +8,20 @@ use crate::both::submit;
 use crate::both::withdraw;
 use crate::counts::Counts;
 use crate::counts::differing;
-use crate::jobs::alone;
 use crate::report::print_figure;
 use crate::report::print_line;
+use crate::report::print_text;
+use builder::alone;
+use builder::task;
 use reference::fresh;
 use rules::Job;
 use tally::Tally;
+use workload::examples::one_row;
 ghost use Rattle.reservation.specs.Registers.{Valid};
-
-// A job that takes one row, on whichever machine is free first.
-fn one_row(number: u64) -> Job {
-    alone(number, 1_000_000, [2, 5, 2, 1])
-}
 
 // A row of the largest cost.
 fn costliest(number: u64) -> Job {
-    alone(number, 1_000_000_000, [0, 0, 0, 1_000_000])
+    alone(number, task(1_000_000_000, 0, [0, 0, 0, 1_000_000]))
 }
 
 // Jobs of one row, numbered from 1 up to the end and not the end.
@@ -81,6 +79,11 @@ pub fn largest_total(counts: Counts) -> Counts {
     later.counts
 }
 
+fn print_parts(name: &[u8], number: u64, parts: u64) {
+    print_figure(name, number);
+    print_figure(b" parts=", parts);
+}
+
 fn ratio(counts: Counts, arrived: u32, admitted: u32) -> Counts {
     let tally = Tally {
         arrived: arrived,
@@ -90,21 +93,25 @@ fn ratio(counts: Counts, arrived: u32, admitted: u32) -> Counts {
     let theirs = reference::ratio(arrived as u64, admitted as u64);
     print_figure(b"ratio of ", admitted as u64);
     print_figure(b" in ", arrived as u64);
-    print_figure(b": number=", ours.number);
-    print_figure(b" parts=", ours.parts);
-    print_figure(b" reference number=", theirs.number);
-    print_line(b" parts=", theirs.parts);
+    print_parts(b": number=", ours.number, ours.parts);
+    print_parts(b" reference number=", theirs.number, theirs.parts);
+    print_text(b"\n");
     differing(counts, ratios_apart(tally, arrived as u64, admitted as u64))
 }
 
-// Two of three submissions are admitted; and 18 where nothing arrived, or less than was admitted.
-pub fn ratios(counts: Counts) -> Counts {
+// Two of three submissions are admitted.
+fn ratio_of_calls(counts: Counts) -> Counts {
     let first = submit(opened(fresh(), counts, 1), one_row(1));
     let again = submit(first, one_row(1));
     let second = submit(again, one_row(2));
     let tally = second.tally;
     let all = second.counts;
-    let mut more = ratio(all, tally.arrived, tally.admitted);
+    ratio(all, tally.arrived, tally.admitted)
+}
+
+// That ratio; and 18 where nothing arrived, or less than was admitted.
+pub fn ratios(counts: Counts) -> Counts {
+    let mut more = ratio_of_calls(counts);
     more = ratio(more, 0, 0);
     more = ratio(more, 0, 1);
     more = ratio(more, 2, 3);

@@ -6,26 +6,26 @@ use crate::both::ratios_apart;
 use crate::calls::next_call;
 use crate::counts::Counts;
 use crate::counts::differing;
-use crate::draws::next_seed;
-use crate::draws::plus;
 use crate::report::print_list;
-use crate::shapes::Shape;
-use crate::shapes::chains;
-use crate::shapes::crowded;
-use crate::shapes::crowded_graphs;
-use crate::shapes::dense;
-use crate::shapes::forks;
-use crate::shapes::joins;
-use crate::shapes::large_figures;
-use crate::shapes::lattices;
-use crate::shapes::out_of_range;
-use crate::shapes::random_graphs;
-use crate::shapes::ties;
-use crate::shapes::trees;
 use reference::Book;
 use reference::fresh;
 use reference::planted;
 use reservation::Register;
+use workload::draws::next_seed;
+use workload::draws::plus;
+use workload::shapes::Shape;
+use workload::shapes::chains;
+use workload::shapes::crowded;
+use workload::shapes::crowded_graphs;
+use workload::shapes::dense;
+use workload::shapes::forks;
+use workload::shapes::joins;
+use workload::shapes::large_figures;
+use workload::shapes::lattices;
+use workload::shapes::out_of_range;
+use workload::shapes::random_graphs;
+use workload::shapes::ties;
+use workload::shapes::trees;
 ghost use Rattle.reservation.specs.Registers.{Valid};
 
 // So many calls from one seed, each handed what the last one left.
@@ -41,14 +41,7 @@ fn called(both: Both, shape: Shape, calls: u64) -> Both
 }
 
 // One list from a tick on; at its end the ratio is compared, and the clock is moved to the horizon.
-pub fn one_list(
-    book: Book,
-    counts: Counts,
-    shape: Shape,
-    calls: u64,
-    tick: u64,
-    seed: u64,
-) -> Counts {
+fn one_list(book: Book, counts: Counts, shape: Shape, calls: u64, tick: u64, seed: u64) -> Counts {
     let begun = advance(opened(book, counts, seed), tick);
     let left = called(begun, shape, calls);
     let emptied = advance(left, Register::HORIZON);
@@ -91,6 +84,6 @@ pub fn all_lists(counts: Counts) -> Counts {
 }
 
 // One list with a wrong time for the link from machine 2 to machine 3.
-pub fn with_fault(counts: Counts) -> Counts {
+pub fn with_wrong_link(counts: Counts) -> Counts {
     one_list(planted(fresh(), 2, 3, 2), counts, trees(), 500, 0, 77)
 }

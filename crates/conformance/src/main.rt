@@ -4,29 +4,25 @@ mod calls;
 mod compare;
 mod convert;
 mod counts;
-mod draws;
 mod examples;
-mod faults;
-mod jobs;
 mod lists;
 mod report;
-mod shapes;
 
 use compare::links_apart;
 use compare::rates_apart;
 use counts::Counts;
 use counts::differing;
 use counts::nothing;
-use draws::plus;
 use examples::largest_total;
 use examples::ratios;
 use examples::row_limit;
 use lists::all_lists;
-use lists::with_fault;
+use lists::with_wrong_link;
 use reference::fresh;
 use report::print_counts;
 use report::print_line;
 use report::print_text;
+use workload::draws::plus;
 
 fn tables(counts: Counts) -> Counts {
     let apart = plus(rates_apart(fresh()), links_apart(fresh()));
@@ -35,7 +31,7 @@ fn tables(counts: Counts) -> Counts {
 }
 
 fn planted_fault() {
-    let counts = with_fault(nothing());
+    let counts = with_wrong_link(nothing());
     print_line(
         b"with a wrong link time in the reference, differences: ",
         counts.differences,

@@ -1,6 +1,6 @@
 // What is printed.
 use crate::counts::Counts;
-use crate::draws::minus;
+use workload::draws::minus;
 
 pub fn print_text(text: &[u8]) {
     io::write_all(1, text);
@@ -34,15 +34,19 @@ fn print_answers(counts: Counts) {
     }
 }
 
+fn print_held(counts: Counts) {
+    print_line(b"most rows held: ", counts.most);
+    print_line(b"calls that left more than 200 rows: ", counts.crowded);
+    print_line(b"calls that left 255 rows: ", counts.almost_full);
+    print_line(b"calls that left 256 rows: ", counts.full);
+}
+
 pub fn print_counts(counts: Counts) {
     print_line(b"calls: ", counts.calls);
     print_answers(counts);
     print_line(b"looks that found nothing: ", counts.idle);
     print_line(b"looks that found a row: ", counts.booked);
-    print_line(b"most rows held: ", counts.most);
-    print_line(b"calls that left more than 200 rows: ", counts.crowded);
-    print_line(b"calls that left 255 rows: ", counts.almost_full);
-    print_line(b"calls that left 256 rows: ", counts.full);
+    print_held(counts);
     print_line(b"rows compared: ", counts.rows);
     print_line(b"differences: ", counts.differences);
 }

@@ -9,10 +9,3 @@ pub mod Trying
 pub mod TriedRows
 pub mod Attempts
 pub mod Chosen
-pub mod Floors
-pub mod Entries
-pub mod Booked
-pub mod Pushing
-pub mod Appending
-pub mod Placed
-pub mod Turning

@@ -21,6 +21,20 @@ key-bytes K.To = bytes "to="
 key-bytes K.Volume = bytes "volume="
 key-bytes K.Tick = bytes "tick="
 
+-- where each key stands in the row of all keys
+abbrev pub key-start : Key → ℕ
+key-start K.Job = 0
+key-start K.Sched = 4
+key-start K.Tasks = 10
+key-start K.Deadline = 16
+key-start K.Dispatch = 25
+key-start K.Run = 34
+key-start K.Messages = 38
+key-start K.From = 47
+key-start K.To = 52
+key-start K.Volume = 55
+key-start K.Tick = 62
+
 -- 0 says that no figure is excepted
 abbrev pub excepted : ℕ → Option ℕ
 excepted zero = none

@@ -5,10 +5,10 @@ use crate::line::begins_with;
 ghost use mathlib.Core.Path.{_≡_};
 ghost use mathlib.Core.Bool.{cond};
 ghost use Prim.Native.Nat.{_+_, _≤_};
-ghost use lib.ListN.{length};
+ghost use lib.ListN.{length, take, drop};
 ghost use Rattle.lines.specs.Lines.{begins};
 ghost use Rattle.lines.specs.Put.{Puts};
-ghost use Rattle.lines.specs.DueLines.{key-bytes};
+ghost use Rattle.lines.specs.DueLines.{key-bytes, key-start};
 ghost use Rattle.lines.specs.Parts.{key-field};
 
 pub enum Key {
@@ -72,23 +72,40 @@ pub fn key_length(key: Key) -> usize
     }
 }
 
+// Where a key stands in the row of all keys that `put_key` writes from.
+fn key_start(key: Key) -> usize
+    ensures { λ r. ⌜ r ≡ key-start key ⌝ }
+{
+    match key {
+        Key::Job => 0,
+        Key::Sched => 4,
+        Key::Tasks => 10,
+        Key::Deadline => 16,
+        Key::Dispatch => 25,
+        Key::Run => 34,
+        Key::Messages => 38,
+        Key::From => 47,
+        Key::To => 52,
+        Key::Volume => 55,
+        Key::Tick => 62,
+    }
+}
+
+// A part of the bytes given, from a place on.
+fn put_part(output: &mut [u8], at: usize, bytes: &[u8], start: usize, size: usize) -> usize
+    requires { ⌜ (start + size ≤ length (now bytes)) × (at + size ≤ length (now output)) ⌝ }
+    ensures { λ r. ⌜ Puts (now (output .entry)) at (take size (drop start (now (bytes .entry)))) (now (output .exit)) r ⌝ }
+{
+    let end = start + size;
+    put_bytes(output, at, &bytes[start..end])
+}
+
 pub fn put_key(output: &mut [u8], at: usize, key: Key) -> usize
     requires { ⌜ at + length (key-bytes key) ≤ length (now output) ⌝ }
     ensures { λ r. ⌜ Puts (now (output .entry)) at (key-bytes key) (now (output .exit)) r ⌝ }
 {
-    match key {
-        Key::Job => put_bytes(output, at, b"job="),
-        Key::Sched => put_bytes(output, at, b"sched="),
-        Key::Tasks => put_bytes(output, at, b"tasks="),
-        Key::Deadline => put_bytes(output, at, b"deadline="),
-        Key::Dispatch => put_bytes(output, at, b"dispatch="),
-        Key::Run => put_bytes(output, at, b"run="),
-        Key::Messages => put_bytes(output, at, b"messages="),
-        Key::From => put_bytes(output, at, b"from="),
-        Key::To => put_bytes(output, at, b"to="),
-        Key::Volume => put_bytes(output, at, b"volume="),
-        Key::Tick => put_bytes(output, at, b"tick="),
-    }
+    let keys = b"job=sched=tasks=deadline=dispatch=run=messages=from=to=volume=tick=";
+    put_part(output, at, keys, key_start(key), key_length(key))
 }
 
 // One line: a key, a figure and a line feed.

@@ -12,9 +12,9 @@ use Rattle.rules.specs.Words.{row-limit}
 use Rattle.rules.specs.Placing.{no-row}
 use Rattle.rules.proofs.Sequences.{getD-mem}
 use Rattle.timeline.specs.RowLine.{most-own, slots}
-use Rattle.drcd.specs.Own.{entry-at, AskRow, RowIs}
+use Rattle.placement.specs.Own.{entry-at, AskRow, RowIs}
 use Rattle.reservation.specs.Parts.{Joining, AskMore, MoreIs}
-use Rattle.drcd.proofs.Entries.{label-below}
+use Rattle.placement.proofs.Entries.{label-below}
 use Rattle.reservation.proofs.Slotted.{slot-next}
 
 -- after i rows

@@ -26,13 +26,13 @@ use Rattle.timeline.specs.Notes.{note-at, AskNote}
 use Rattle.timeline.proofs.Drawing.{known-same, begins-ascend, ends-ascend}
 use Rattle.timeline.proofs.Columns.{column-at, note-stands}
 use Rattle.timeline.proofs.Line.{line-long, line-from, line-drawn}
-use Rattle.drcd.specs.declared.own.Entry.{Entry}
-use Rattle.drcd.specs.Own.{entry-for, RowIs}
+use Rattle.placement.specs.declared.own.Entry.{Entry}
+use Rattle.placement.specs.Own.{entry-for, RowIs}
 use Rattle.reservation.specs.declared.Register.{Register}
 use Rattle.reservation.specs.Registers.{state-of, Valid}
 use Rattle.reservation.specs.Calls.{Looks}
-use Rattle.drcd.proofs.Appending.{in-range-drawable}
-use Rattle.drcd.proofs.Entries.{label-below}
+use Rattle.placement.proofs.Appending.{in-range-drawable}
+use Rattle.placement.proofs.Entries.{label-below}
 use Rattle.reservation.proofs.Values.{held, held-length, count-few, valid-timetable, valid-long}
 
 -- where a tick of a machine is on the line

@@ -3,8 +3,8 @@ use Rattle.rules.specs.declared.Job.{Job}
 use Rattle.rules.specs.Refusals.{submits, withdraws, advances}
 use Rattle.rules.specs.Refusals as Rules
 use Rattle.reservation.specs.declared.calls.Call.{Call}
-use Rattle.admission.specs.declared.calls.Kind.{Kind}
-use Rattle.admission.specs.declared.calls.Kind.the-variants.{Submit, Withdraw, Advance}
+use Rattle.rules.specs.declared.Kind.{Kind}
+use Rattle.rules.specs.declared.Kind.the-variants.{Submit, Withdraw, Advance}
 
 -- the call of the rules that a call of the code is
 abbrev pub kind-of : Kind → Job → Rules.Call

@@ -12,7 +12,7 @@ use Rattle.rules.specs.Words.{State, View, row-limit, most-tasks, most-messages
 use Rattle.rules.specs.Bounds.{Sound, RowInRange}
 use Rattle.rules.specs.Refusals.{refusal, submit-answer, Call, step}
 use Rattle.timeline.specs.RowLine.{most-own, line-of, slots}
-use Rattle.drcd.specs.Own.{OwnRows}
+use Rattle.placement.specs.Own.{OwnRows}
 use Rattle.timetable.specs.declared.Outcome.{Outcome}
 use Rattle.timetable.specs.Marks.{JobsOf, WholeJobs}
 use Rattle.timetable.specs.Timetables.{Goes}

@@ -1,8 +1,8 @@
 // One call of any kind, applied to a register.
 use crate::Register;
 use crate::Reply;
-use admission::calls::Kind;
 use rules::Job;
+use rules::Kind;
 ghost use Rattle.reservation.specs.Registers.{Valid};
 ghost use Rattle.reservation.specs.Calls.{Steps};
 ghost use Rattle.reservation.specs.Kinds.{call-of};

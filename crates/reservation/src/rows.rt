@@ -1,7 +1,7 @@
 // The rows of the register that is left, in the order in which they were admitted.
-use drcd::own::OWNED;
-use drcd::own::entry_at;
-use drcd::own::row_of;
+use placement::own::OWNED;
+use placement::own::entry_at;
+use placement::own::row_of;
 use rules::ROWS;
 use rules::Row;
 use rules::rows::blank;

@@ -1,7 +1,7 @@
 // Look: what stands on a machine at a tick. It changes nothing.
 use crate::Register;
-use drcd::own::Entry;
-use drcd::own::row_of;
+use placement::own::Entry;
+use placement::own::row_of;
 use rules::HORIZON;
 use rules::Seen;
 use timeline::TICKS;

@@ -71,6 +71,13 @@ pub struct Row {
     pub cost: u64,
 }
 
+// The kind of a call, with its number or tick. A submission's job stands beside it.
+pub enum Kind {
+    Submit,
+    Withdraw(u64),
+    Advance(u64),
+}
+
 // The answer to a call: number 0 or that of a refusal, the task that a refusal names, and the cost and count of new rows.
 pub struct Answer {
     pub number: u64,

@@ -24,9 +24,9 @@ use Rattle.texts.proofs.Reading.{said-read, said-refused}
 use Rattle.texts.proofs.Reached.{line-reached, job-reached}
 use Rattle.figures.specs.Rows.{RowOf}
 use Rattle.figures.specs.Reading.{JobRowRead}
-use Rattle.admission.specs.declared.calls.Kind.{Kind}
-use Rattle.admission.specs.declared.calls.Kind.the-variants.{Submit}
-use Rattle.admission.specs.Called.{AsksFor}
+use Rattle.rules.specs.declared.Kind.{Kind}
+use Rattle.rules.specs.declared.Kind.the-variants.{Submit}
+use Rattle.script.specs.Called.{AsksFor}
 use Rattle.script.specs.Keys.{job-key, tick-key}
 use Rattle.script.specs.declared.acts.ActRead.{ActRead}
 use Rattle.script.specs.declared.acts.ActRead.the-variants.{Called, Unread}

@@ -1,6 +1,6 @@
 -- Fields written one after the other, and the room that they take.
 use mathlib.Core.Path.{_≡_, refl, _∙_}
-use mathlib.Core.List.{List, [], _++_}
+use mathlib.Core.List.{List, [], _++_, append-assoc}
 use Prim.Native.Nat.{ℕ, _+_, _-_, _^_, _≤_}
 use native.Mathlib.Omega.{arith}
 use lib.ListN.{length, length-append}
@@ -41,6 +41,13 @@ module _ {old : List ℕ} {at : ℕ} where
       {bytes mid : List ℕ} {next most : ℕ} (key : List ℕ) {n : ℕ} {new : List ℕ} {last : ℕ} → at + (most + field-room key) ≤ length old →
       PutWithin old at bytes mid next most → PutsField mid next key n new last → PutWithin old at (bytes ++ field key n) new last (most + field-room key)
   within-field key {n} h w p = within-then (field key n) (field-room key) h w (p .puts) (p .short)
+
+  -- two fields more, written together
+  pub within-two :
+      {bytes mid : List ℕ} {next most : ℕ} (first second : List ℕ) {new : List ℕ} {last : ℕ} (size : ℕ) → at + (most + size) ≤ length old →
+      PutWithin old at bytes mid next most → PutsAtMost mid next (first ++ second) new last size →
+      PutWithin old at (bytes ++ first ++ second) new last (most + size)
+  within-two {bytes} first second size h w p = rw (append-assoc bytes first second) (within-then (first ++ second) size h w (p .puts) (p .short))
 
   -- the first field
   pub first-field :

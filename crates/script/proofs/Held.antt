@@ -19,9 +19,9 @@ use Rattle.timeline.specs.RowLine.{spans-room, note-size, row-begin, row-end, l
 use Rattle.timeline.specs.Notes.{note-at}
 use Rattle.timeline.proofs.Line.{line-long, line-from}
 use Rattle.timeline.proofs.Columns.{column-at, note-stands}
-use Rattle.drcd.specs.declared.own.Entry.{Entry}
-use Rattle.drcd.specs.Own.{entry-for, AskRow, RowIs}
-use Rattle.drcd.proofs.Entries.{label-below}
+use Rattle.placement.specs.declared.own.Entry.{Entry}
+use Rattle.placement.specs.Own.{entry-for, AskRow, RowIs}
+use Rattle.placement.proofs.Entries.{label-below}
 use Rattle.timetable.specs.declared.Status.{Status}
 use Rattle.timetable.specs.Derived.{never, least-of, most-of, last-finish}
 use Rattle.timetable.specs.Timetables.{TimetableOf}

@@ -1,4 +1,5 @@
 -- Laws that the functions' proofs cite.
+pub mod Calling
 pub mod Acted
 pub mod Fields
 pub mod TimelineOrder

@@ -14,7 +14,7 @@ use Rattle.rules.specs.Placing.{no-row}
 use Rattle.timeline.specs.declared.notes.Note.{Note}
 use Rattle.timeline.specs.RowLine.{line-of}
 use Rattle.timeline.specs.Notes.{note-at}
-use Rattle.drcd.specs.Own.{RowIs}
+use Rattle.placement.specs.Own.{RowIs}
 use Rattle.timetable.specs.declared.Status.{Status}
 use Rattle.timetable.specs.Timetables.{TimetableOf}
 use Rattle.lines.specs.Put.{Puts}

@@ -23,15 +23,15 @@ use Rattle.texts.specs.Rows.{most-figures}
 use Rattle.texts.proofs.Reached.{Reached, least-line, line-reached, least-job, job-reached}
 use Rattle.figures.specs.Tables.{TableOf}
 use Rattle.timeline.specs.RowLine.{spans-room, note-size}
-use Rattle.drcd.specs.Own.{owned}
+use Rattle.placement.specs.Own.{owned}
 use Rattle.timetable.specs.declared.Status.{Status}
 use Rattle.timetable.specs.declared.Outcome.{Outcome}
-use Rattle.admission.specs.declared.calls.Kind.{Kind}
-use Rattle.admission.specs.declared.calls.Kind.the-variants.{Submit, Withdraw, Advance}
+use Rattle.rules.specs.declared.Kind.{Kind}
+use Rattle.rules.specs.declared.Kind.the-variants.{Submit, Withdraw, Advance}
 use Rattle.timetable.specs.Derived.{never}
 use Rattle.timetable.specs.Timetables.{TimetableOf, AskTimetable, Goes}
-use Rattle.admission.specs.Called.{AsksFor}
-use Rattle.admission.specs.Called.{Calling}
+use Rattle.script.specs.Called.{AsksFor}
+use Rattle.script.specs.Called.{Calling}
 use Rattle.script.specs.declared.acts.ActRead.the-variants.{Called}
 use Rattle.script.specs.Keys.{job-key, tick-key}
 use Rattle.script.specs.Acts.{Act, input-ends, call, unread, as-act, number-act, act, submit-line, withdraw-line, clock-line}

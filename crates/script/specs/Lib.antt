@@ -7,4 +7,5 @@ pub mod Program
 pub mod Demands
 pub mod Laws
 pub mod Contract
+pub mod Called
 pub mod Parts

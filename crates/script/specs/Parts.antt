@@ -10,10 +10,10 @@ use Rattle.rules.specs.Sequences.{joined}
 use Rattle.rules.specs.Words.{State, fresh, row-limit}
 use Rattle.rules.specs.Refusals.{Call, submits}
 use Rattle.timetable.specs.declared.Status.{Status}
-use Rattle.admission.specs.declared.calls.Kind.{Kind}
-use Rattle.admission.specs.declared.calls.Kind.the-variants.{Submit, Withdraw, Advance}
+use Rattle.rules.specs.declared.Kind.{Kind}
+use Rattle.rules.specs.declared.Kind.the-variants.{Submit, Withdraw, Advance}
 use Rattle.timetable.specs.Timetables.{TimetableOf, AskTimetable}
-use Rattle.admission.specs.Called.{AsksFor}
+use Rattle.script.specs.Called.{AsksFor}
 use Rattle.lines.specs.Figures.{field}
 use Rattle.lines.specs.Parts.{word-digits}
 use Rattle.lines.specs.Put.{Puts}
@@ -96,13 +96,23 @@ PutsReply old at kind a new next = PutsAtMost old at (reply-to kind a) new next 
 abbrev pub most-heading : ℕ
 most-heading = field-room clock-key + field-room total-key + field-room held-key
 
+-- the last two fields of every row
+abbrev pub span-listed : (start finish : ℕ) → List ℕ
+span-listed start finish = field start-key start ++ field finish-key finish
+
+abbrev pub most-span : ℕ
+most-span = field-room start-key + field-room finish-key
+
 -- the five fields of a task's row and the seven of a message's
 abbrev pub most-task-row : ℕ
 most-task-row = field-room machine-key + field-room job-key + field-room task-key + field-room start-key + field-room finish-key
 
+-- those of a message's row before its span
+abbrev pub most-ends : ℕ
+most-ends = field-room link-key + field-room to-key + field-room job-key + field-room from-key + field-room task-key
+
 abbrev pub most-row : ℕ
-most-row =
-    field-room link-key + field-room to-key + field-room job-key + field-room from-key + field-room task-key + field-room start-key + field-room finish-key
+most-row = most-ends + most-span
 
 abbrev pub most-listing : ℕ
 most-listing = most-heading + row-limit * most-row

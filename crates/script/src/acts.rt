@@ -1,5 +1,4 @@
 // What stands at a place of a script: an act line, and the job text, the number or the tick that it calls for.
-use admission::calls::Kind;
 use figures::reading::read_job_row;
 use lines::keys::Key;
 use lines::line::Reading;
@@ -8,6 +7,7 @@ use lines::line::begins_with;
 use lines::line::read_line;
 use lines::line::reading_number;
 use rules::DEFAULT_MACHINES;
+use rules::Kind;
 use texts::job::FIGURES;
 ghost use Rattle.rules.specs.Refusals.{submits, withdraws, advances};
 ghost use Rattle.script.specs.Keys.{job-key, tick-key};

@@ -1,5 +1,6 @@
 // The program `register` as a function on bytes: a script goes in, answers and a listing come out.
 mod acts;
+mod calls;
 mod listing;
 mod output;
 mod replies;
@@ -7,12 +8,12 @@ mod replies;
 use acts::ActRead;
 use acts::next_act;
 use acts::unread_number;
-use admission::calls::asking;
-use admission::calls::called;
-use drcd::own::OWNED;
+use calls::asking;
+use calls::called;
 use figures::lending::table_figures;
 use listing::put_listing;
 use output::put_any_field;
+use placement::own::OWNED;
 use replies::put_reply;
 use rules::tables::default_setup;
 use texts::job::FIGURES;

@@ -1,7 +1,7 @@
 // The listing: clock, total, held, then the rows by machine and start, and by link and start.
 use crate::output::put_any_field;
-use drcd::own::Entry;
-use drcd::own::row_of;
+use placement::own::Entry;
+use placement::own::row_of;
 use rules::Holder;
 use rules::Row;
 use timeline::notes::note_at;
@@ -9,7 +9,7 @@ use timetable::Status;
 ghost use Prim.Native.Nat.{_+_, _≤_};
 ghost use lib.ListN.{length};
 ghost use Rattle.script.specs.Listing.{task-listed, message-listed, row-bytes, heading};
-ghost use Rattle.script.specs.Parts.{PutsAtMost, most-heading, most-row, AskRows, PutsRows, AskListing, PutsListing};
+ghost use Rattle.script.specs.Parts.{PutsAtMost, most-heading, span-listed, most-span, most-row, AskRows, PutsRows, AskListing, PutsListing};
 
 fn put_heading(output: &mut [u8], at: usize, clock: u64, total: u64, held: u64) -> usize
     requires { ⌜ at + most-heading ≤ length (now output) ⌝ }
@@ -20,6 +20,15 @@ fn put_heading(output: &mut [u8], at: usize, clock: u64, total: u64, held: u64) 
     put_any_field(output, at2, b"held=", held)
 }
 
+// The last two fields of every row.
+fn put_span(output: &mut [u8], at: usize, start: u64, finish: u64) -> usize
+    requires { ⌜ at + most-span ≤ length (now output) ⌝ }
+    ensures { λ r. ⌜ PutsAtMost (now (output .entry)) at (span-listed start finish) (now (output .exit)) r most-span ⌝ }
+{
+    let at1 = put_any_field(output, at, b"start=", start);
+    put_any_field(output, at1, b"finish=", finish)
+}
+
 fn put_task_row(output: &mut [u8], at: usize, machine: u64, task: u64, row: Row) -> usize
     requires { ⌜ at + most-row ≤ length (now output) ⌝ }
     ensures { λ r. ⌜ PutsAtMost (now (output .entry)) at (task-listed machine task row) (now (output .exit)) r most-row ⌝ }
@@ -27,8 +36,7 @@ fn put_task_row(output: &mut [u8], at: usize, machine: u64, task: u64, row: Row)
     let at1 = put_any_field(output, at, b"machine=", machine);
     let at2 = put_any_field(output, at1, b"job=", row.job as u64);
     let at3 = put_any_field(output, at2, b"task=", task);
-    let at4 = put_any_field(output, at3, b"start=", row.start as u64);
-    put_any_field(output, at4, b"finish=", row.finish as u64)
+    put_span(output, at3, row.start as u64, row.finish as u64)
 }
 
 fn put_message_row(
@@ -48,8 +56,7 @@ fn put_message_row(
     let at3 = put_any_field(output, at2, b"job=", row.job as u64);
     let at4 = put_any_field(output, at3, b"from=", sender);
     let at5 = put_any_field(output, at4, b"task=", receiver);
-    let at6 = put_any_field(output, at5, b"start=", row.start as u64);
-    put_any_field(output, at6, b"finish=", row.finish as u64)
+    put_span(output, at5, row.start as u64, row.finish as u64)
 }
 
 fn put_row(output: &mut [u8], at: usize, row: Row) -> usize

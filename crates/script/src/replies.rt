@@ -1,7 +1,7 @@
 // The bytes of an answer, one field a line.
 use crate::output::put_any_field;
-use admission::calls::Kind;
 use rules::Answer;
+use rules::Kind;
 ghost use Prim.Native.Nat.{_+_, _≤_};
 ghost use lib.ListN.{length};
 ghost use Rattle.lines.specs.Figures.{field};

@@ -1,13 +1,13 @@
 -- The pass that clears: from the index on up to i every entry is blank.
 use mathlib.Core.Path.{_≡_, refl, _∙_}
 use mathlib.Core.List.{List}
-use Prim.Native.Nat.{ℕ, _+_, _*_, _≤_, _<_, max}
+use Prim.Native.Nat.{ℕ, _+_, _≤_, _<_, max}
 use native.Mathlib.Omega.{arith}
 use lib.ListN.{set}
 use Rattle.rules.proofs.Sequences.{by-less}
-use Rattle.timeline.specs.RowLine.{note-size}
 use Rattle.timeline.specs.Packing.{no-note, AskClear, ClearedIn, Cleared}
-use Rattle.timeline.proofs.Entries.{Written, figure-written, note-set, note-written}
+use Rattle.timeline.specs.Notes.{AskNote, NotePut}
+use Rattle.timeline.proofs.Entries.{Written, figure-written, note-written}
 
 -- One column.
 
@@ -64,10 +64,13 @@ module _ {begins ends jobs notes : List ℕ} {from count : ℕ} where
   }
 
   module _ {begins′ ends′ jobs′ notes′ : List ℕ} {i : ℕ} (clearing : Clearing begins ends jobs notes from count begins′ ends′ jobs′ notes′ i) where
+    pub note-asked : AskClear begins ends jobs notes count → i < count → AskNote notes′ i
+    note-asked asked more = record { long = clearing .are .notes-are .long ∙ asked .notes-long; there = let few = asked .few in omega arith }
+
     pub clearing-more :
-        AskClear begins ends jobs notes count → i < count →
-        Clearing begins ends jobs notes from count (set begins′ i 0) (set ends′ i 0) (set jobs′ i 0) (note-set notes′ (i * note-size) 0 0 0) (i + 1)
-    clearing-more asked more =
+        AskClear begins ends jobs notes count → i < count → {notes″ : List ℕ} → NotePut notes′ i no-note notes″ →
+        Clearing begins ends jobs notes from count (set begins′ i 0) (set ends′ i 0) (set jobs′ i 0) notes″ (i + 1)
+    clearing-more asked more put =
         let low = clearing .low in
         let are = clearing .are in
         record {
@@ -77,7 +80,7 @@ module _ {begins ends jobs notes : List ℕ} {from count : ℕ} where
             begins-are = cleared-more _ _ (are .begins-are) low (figure-written begins′ i 0 (omega (arith, are .begins-are .long)));
             ends-are = cleared-more _ _ (are .ends-are) low (figure-written ends′ i 0 (omega (arith, are .ends-are .long)));
             jobs-are = cleared-more _ _ (are .jobs-are) low (figure-written jobs′ i 0 (omega (arith, are .jobs-are .long)));
-            notes-are = cleared-more _ _ (are .notes-are) low (note-written notes′ i no-note (omega (arith, are .notes-are .long)));
+            notes-are = cleared-more _ _ (are .notes-are) low (note-written notes′ i no-note (omega (arith, are .notes-are .long)) put);
           };
         }
 

@@ -12,7 +12,7 @@ use Rattle.rules.specs.Placing.{no-row}
 use Rattle.rules.proofs.Sequences.{by-less}
 use Rattle.timeline.specs.declared.notes.Note.{Note}
 use Rattle.timeline.specs.RowLine.{spans-room, slots, column, note-of, notes-of, note-size}
-use Rattle.timeline.specs.Notes.{note-at}
+use Rattle.timeline.specs.Notes.{note-at, note-set, NotePut}
 use Rattle.timeline.specs.Packing.{figure-at}
 
 -- One entry is written, and the others are as before.
@@ -27,10 +27,6 @@ figure-written old k value room = record {
   here = getD-set-same old k value 0 room;
   other = λ j ne. getD-set-other old k j value 0 ne;
 }
-
--- three figures of the list at a place of a note
-abbrev pub note-set : List ℕ → ℕ → (label cost last : ℕ) → List ℕ
-note-set notes at a b c = set (set (set notes (at + 0) a) (at + 1) b) (at + 2) c
 
 module _ (old : List ℕ) (at a b c : ℕ) (room : at + note-size ≤ length old) where
   set-label : getD (note-set old at a b c) (at + 0) 0 ≡ a
@@ -54,49 +50,28 @@ set-other old at a b c j out =
     ∙ getD-set-other old (at + 0) j a 0 (λ e. out (omega arith) (omega arith))
 
 pub note-written :
-    (old : List ℕ) (k : ℕ) (note : Note) → k * note-size + note-size ≤ length old →
-    Written note-at old (note-set old (k * note-size) (note .label) (note .cost) (note .last)) k note
-note-written old k note room =
+    (old : List ℕ) (k : ℕ) (note : Note) {new : List ℕ} → k * note-size + note-size ≤ length old → NotePut old k note new → Written note-at old new k note
+note-written old k note room is =
     let at = k * note-size in
     let a = note .label in
     let b = note .cost in
     let c = note .last in
     record {
-      long = simp length-set refl;
-      here = rw (set-label old at a b c room, set-cost old at a b c room, set-last old at a b c room) refl;
+      long = ap length is ∙ simp length-set;
+      here = rw (is, set-label old at a b c room, set-cost old at a b c room, set-last old at a b c room) refl;
       other =
           λ j ne.
           let out : (m : ℕ) → m < note-size → at ≤ j * note-size + m → j * note-size + m < at + note-size → ⊥ =
           λ m few low high. ne (omega arith)
           in
           rw (
+            is,
             set-other old at a b c (j * note-size + 0) (out 0 (omega arith)),
             set-other old at a b c (j * note-size + 1) (out 1 (omega arith)),
             set-other old at a b c (j * note-size + 2) (out 2 (omega arith)),
           )
           refl;
     }
-
--- a note copied to a place before its own, or to its own, figure by figure
-abbrev pub note-copied : (notes : List ℕ) (to from : ℕ) → List ℕ
-note-copied notes to from =
-    let first = set notes (to + 0) (getD notes (from + 0) 0) in
-    let second = set first (to + 1) (getD first (from + 1) 0) in
-    set second (to + 2) (getD second (from + 2) 0)
-
-pub note-moved :
-    (old : List ℕ) (k i : ℕ) → k ≤ i → i * note-size + note-size ≤ length old →
-    Written note-at old (note-copied old (k * note-size) (i * note-size)) k (note-at old i)
-note-moved old k i low room =
-    let to = k * note-size in
-    let from = i * note-size in
-    let first = set old (to + 0) (getD old (from + 0) 0) in
-    let cost-is : getD first (from + 1) 0 ≡ getD old (from + 1) 0 = getD-set-other old (to + 0) (from + 1) (getD old (from + 0) 0) 0 (λ e. omega arith) in
-    let last-is : getD (set first (to + 1) (getD old (from + 1) 0)) (from + 2) 0 ≡ getD old (from + 2) 0 =
-    getD-set-other first (to + 1) (from + 2) (getD old (from + 1) 0) 0 (λ e. omega arith)
-    ∙ getD-set-other old (to + 0) (from + 2) (getD old (from + 0) 0) 0 (λ e. omega arith)
-    in
-    rw (cost-is, last-is) (note-written old k (note-at old i) (omega arith))
 
 -- Columns of rows.
 

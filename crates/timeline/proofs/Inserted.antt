@@ -8,9 +8,8 @@ use lib.Seq.{length-take-le, getD-take, getD-drop, getD-at, getD-append-add, get
 use Rattle.rules.proofs.Sequences.{by-less}
 use Rattle.timeline.specs.declared.notes.Note.{Note}
 use Rattle.timeline.specs.RowLine.{note-size, AskInsert, InsertedAt}
-use Rattle.timeline.specs.Notes.{AskInsertNote, NoteInserted}
+use Rattle.timeline.specs.Notes.{AskNote, NotePut, AskInsertNote, NoteInserted}
 use Rattle.timeline.proofs.Parts.{part-same, rest-same}
-use Rattle.timeline.proofs.Entries.{note-set}
 
 -- an index of so many and one is before the place of the value, or it is that place, or it is one further than an index from there on
 pub by-place :
@@ -178,10 +177,11 @@ module _ {old : List ℕ} {count at : ℕ} (asked : AskInsertNote old count at) 
         at * note-size < i → Shifted note-size old (count * note-size) (at * note-size) (set new ((i - 1) + note-size) (getD new (i - 1) 0)) (i - 1)
     noted-more more = shifted-more (omega arith) moved more
 
-    pub noted-put :
-        (note : Note) → i ≤ at * note-size →
-        NoteInserted old count at note (note-set new (at * note-size) (note .label) (note .cost) (note .last))
-    noted-put note done =
+    pub put-asked : AskNote new at
+    put-asked = record { long = moved .long ∙ asked .long; there = omega arith }
+
+    pub noted-put : i ≤ at * note-size → {note : Note} {put : List ℕ} → NotePut new at note put → NoteInserted old count at note put
+    noted-put done {note} is =
         let first : at * note-size + 0 ≡ at * note-size = omega arith in
         let second : at * note-size + 1 ≡ suc (at * note-size) = omega arith in
         let third : at * note-size + 2 ≡ suc (suc (at * note-size)) = omega arith in
@@ -189,8 +189,9 @@ module _ {old : List ℕ} {count at : ℕ} (asked : AskInsertNote old count at) 
         let past : (count + 1) * note-size ≡ count * note-size + note-size = omega arith in
         record {
           new-is =
-              rw
+              is
+              ∙ rw
               (first, second, third, behind-it, past)
               (shifted-put (omega arith) moved done (note .label ∷ note .cost ∷ note .last ∷ []) refl);
-          long = simp length-set (moved .long);
+          long = ap length is ∙ simp length-set (moved .long);
         }

@@ -10,11 +10,12 @@ use lib.Seq.{getD-at}
 use Rattle.rules.specs.Sequences.{keep, cons-if, sum-of, numbers}
 use Rattle.rules.specs.Bounds.{largest-cost}
 use Rattle.rules.proofs.Sequences.{by-less, keep-append, keep-all, keep-none, length-keep, length-numbers, numbers-more, mem-numbers, sum-append}
-use Rattle.timeline.specs.RowLine.{note-size}
-use Rattle.timeline.specs.Notes.{note-at}
+use Rattle.timeline.specs.declared.notes.Note.{Note}
+use Rattle.timeline.specs.declared.removal.Left.{Left}
+use Rattle.timeline.specs.Notes.{note-at, AskNote, NotePut}
 use Rattle.timeline.specs.TakenOut.{AskTakeOut}
-use Rattle.timeline.specs.Packing.{going, staying, PackedIn, PackedIs}
-use Rattle.timeline.proofs.Entries.{Written, figure-written, note-copied, note-moved}
+use Rattle.timeline.specs.Packing.{going, staying, PackedIn, PackedIs, AskClear}
+use Rattle.timeline.proofs.Entries.{Written, figure-written, note-written}
 
 -- Indices.
 
@@ -112,6 +113,14 @@ pub record Packing
   pub cost-fits : cost ≤ i * largest-cost
   pub are : PackedIs begins ends jobs notes leaves i begins′ ends′ jobs′ notes′ record { count = kept; cost = cost }
 
+-- the same, said of what a turn leaves
+pub packing-is :
+    {begins ends jobs notes : List ℕ} {leaves : List Bool} {count : ℕ} {begins′ ends′ jobs′ notes′ begins″ ends″ jobs″ notes″ : List ℕ} {kept cost kept′ cost′ i : ℕ} →
+    begins″ ≡ begins′ → ends″ ≡ ends′ → jobs″ ≡ jobs′ → notes″ ≡ notes′ → kept′ ≡ kept → cost′ ≡ cost →
+    Packing begins ends jobs notes leaves count begins′ ends′ jobs′ notes′ kept cost i →
+    Packing begins ends jobs notes leaves count begins″ ends″ jobs″ notes″ kept′ cost′ i
+packing-is b e j n k c packing = rw (b, e, j, n, k, c) packing
+
 module _ {begins ends jobs notes : List ℕ} {leaves : List Bool} {from count : ℕ} (asked : AskTakeOut begins ends jobs notes leaves from count) where
   pub packing-none : Packing begins ends jobs notes leaves count begins ends jobs notes from 0 from
   packing-none =
@@ -130,60 +139,78 @@ module _ {begins ends jobs notes : List ℕ} {leaves : List Bool} {from count : 
         };
       }
 
+  -- the columns are as long as before
+  pub clear-asked :
+      {i : ℕ} {begins′ ends′ jobs′ notes′ : List ℕ} {r : Left} → PackedIs begins ends jobs notes leaves i begins′ ends′ jobs′ notes′ r →
+      AskClear begins′ ends′ jobs′ notes′ count
+  clear-asked are = record {
+    begins-long = are .begins-are .long ∙ asked .begins-long;
+    ends-long = are .ends-are .long ∙ asked .ends-long;
+    jobs-long = are .jobs-are .long ∙ asked .jobs-long;
+    notes-long = are .notes-are .long ∙ asked .notes-long;
+    few = asked .few;
+  }
+
   module _
       {begins′ ends′ jobs′ notes′ : List ℕ} {kept cost i : ℕ}
       (packing : Packing begins ends jobs notes leaves count begins′ ends′ jobs′ notes′ kept cost i) where
-    -- what a row that is yet to be passed has cost
-    cost-same : getD notes′ (i * note-size + 1) 0 ≡ getD notes (i * note-size + 1) 0
-    cost-same = ap (λ note. note .cost) (packing .are .notes-are .after i (omega arith))
-
     module _ (more : i < count) where
-      pub cost-few : getD notes′ (i * note-size + 1) 0 ≤ largest-cost
-      cost-few = omega (arith, cost-same, asked .costs-fit i more)
+      pub note-there : {k : ℕ} → k ≤ i → AskNote notes′ k
+      note-there low = record { long = clear-asked (packing .are) .notes-long; there = let few = asked .few in omega arith }
 
-      pub packing-goes :
-          getD leaves i false ≡ true →
-          Packing begins ends jobs notes leaves count begins′ ends′ jobs′ notes′ kept (cost + getD notes′ (i * note-size + 1) 0) (i + 1)
-      packing-goes e =
-          let are = packing .are in
-          record {
-            within = omega arith;
-            few = omega arith;
-            cost-fits = omega (arith, cost-few);
-            are = record {
-              begins-are = packed-goes _ leaves (are .begins-are) e;
-              ends-are = packed-goes _ leaves (are .ends-are) e;
-              jobs-are = packed-goes _ leaves (are .jobs-are) e;
-              notes-are = packed-goes _ leaves (are .notes-are) e;
-              count-is = are .count-is ∙ sym (ap length (stay-same leaves i e));
-              cost-is =
-                  rw
-                  (go-more leaves i e, sum-append (λ k. note-at notes k .cost) (going leaves i) (i ∷ []))
-                  (omega (arith, are .cost-is, cost-same));
-            };
-          }
+      module _ {note : Note} (read : note ≡ note-at notes′ i) where
+        -- a row that is yet to be passed is as it was
+        unread : note ≡ note-at notes i
+        unread = read ∙ packing .are .notes-are .after i (omega arith)
 
-      pub packing-stays :
-          getD leaves i false ≡ false →
-          Packing begins ends jobs notes leaves count
-          (set begins′ kept (getD begins′ i 0)) (set ends′ kept (getD ends′ i 0)) (set jobs′ kept (getD jobs′ i 0))
-          (note-copied notes′ (kept * note-size) (i * note-size)) (kept + 1) cost (i + 1)
-      packing-stays e =
-          let are = packing .are in
-          let is = are .count-is in
-          record {
-            within = omega arith;
-            few = omega arith;
-            cost-fits = omega arith;
-            are = record {
-              begins-are = packed-stays _ leaves (are .begins-are) e is (figure-written begins′ kept _ (omega (arith, are .begins-are .long)));
-              ends-are = packed-stays _ leaves (are .ends-are) e is (figure-written ends′ kept _ (omega (arith, are .ends-are .long)));
-              jobs-are = packed-stays _ leaves (are .jobs-are) e is (figure-written jobs′ kept _ (omega (arith, are .jobs-are .long)));
-              notes-are = packed-stays _ leaves (are .notes-are) e is (note-moved notes′ kept i (packing .few) (omega (arith, are .notes-are .long)));
-              count-is = rw (stay-more leaves i e) (omega (arith, is, length-append (staying leaves i) (i ∷ [])));
-              cost-is = rw (go-same leaves i e) (are .cost-is);
-            };
-          }
+        cost-same : note .cost ≡ note-at notes i .cost
+        cost-same = ap (λ x. x .cost) unread
+
+        pub cost-few : note .cost ≤ largest-cost
+        cost-few = omega (arith, cost-same, asked .costs-fit i more)
+
+        pub packing-goes :
+            getD leaves i false ≡ true → Packing begins ends jobs notes leaves count begins′ ends′ jobs′ notes′ kept (cost + note .cost) (i + 1)
+        packing-goes e =
+            let are = packing .are in
+            record {
+              within = omega arith;
+              few = omega arith;
+              cost-fits = omega (arith, cost-few);
+              are = record {
+                begins-are = packed-goes _ leaves (are .begins-are) e;
+                ends-are = packed-goes _ leaves (are .ends-are) e;
+                jobs-are = packed-goes _ leaves (are .jobs-are) e;
+                notes-are = packed-goes _ leaves (are .notes-are) e;
+                count-is = are .count-is ∙ sym (ap length (stay-same leaves i e));
+                cost-is =
+                    rw
+                    (go-more leaves i e, sum-append (λ k. note-at notes k .cost) (going leaves i) (i ∷ []))
+                    (omega (arith, are .cost-is, cost-same));
+              };
+            }
+
+        pub packing-stays :
+            getD leaves i false ≡ false → {notes″ : List ℕ} → NotePut notes′ kept note notes″ →
+            Packing begins ends jobs notes leaves count
+            (set begins′ kept (getD begins′ i 0)) (set ends′ kept (getD ends′ i 0)) (set jobs′ kept (getD jobs′ i 0)) notes″ (kept + 1) cost (i + 1)
+        packing-stays e put =
+            let are = packing .are in
+            let is = are .count-is in
+            let long = clear-asked are in
+            record {
+              within = omega arith;
+              few = omega arith;
+              cost-fits = omega arith;
+              are = record {
+                begins-are = packed-stays _ leaves (are .begins-are) e is (figure-written begins′ kept _ (omega arith));
+                ends-are = packed-stays _ leaves (are .ends-are) e is (figure-written ends′ kept _ (omega arith));
+                jobs-are = packed-stays _ leaves (are .jobs-are) e is (figure-written jobs′ kept _ (omega arith));
+                notes-are = packed-stays _ leaves (are .notes-are) e is (rw read at (note-written notes′ kept note (omega arith) put));
+                count-is = rw (stay-more leaves i e) (omega (arith, is, length-append (staying leaves i) (i ∷ [])));
+                cost-is = rw (go-same leaves i e) (are .cost-is);
+              };
+            }
 
     pub packing-all : count ≤ i → PackedIs begins ends jobs notes leaves count begins′ ends′ jobs′ notes′ record { count = kept; cost = cost }
     packing-all all = let same : i ≡ count = omega arith in rw same at (packing .are)

@@ -2,7 +2,7 @@
 use mathlib.Core.Path.{_≡_}
 use mathlib.Core.List.{List, _∷_, _++_}
 use Prim.Native.Nat.{ℕ, _+_, _-_, _*_, _≤_, _<_}
-use lib.ListN.{length, getD, take, drop}
+use lib.ListN.{length, getD, set, take, drop}
 use Rattle.timeline.specs.declared.notes.Note.{Note}
 use Rattle.timeline.specs.RowLine.{spans-room, note-size}
 
@@ -16,6 +16,14 @@ note-at notes i = record {
 pub record AskNote (notes : List ℕ) (i : ℕ) : Type 0 where
   pub long : length notes ≡ spans-room * note-size
   pub there : i < spans-room
+
+-- three figures of the list at a place of a note
+abbrev pub note-set : List ℕ → (at label cost last : ℕ) → List ℕ
+note-set notes at a b c = set (set (set notes (at + 0) a) (at + 1) b) (at + 2) c
+
+-- a note written over the one at an index
+abbrev pub NotePut : (old : List ℕ) (i : ℕ) (note : Note) (new : List ℕ) → Type 0
+NotePut old i note new = new ≡ note-set old (i * note-size) (note .label) (note .cost) (note .last)
 
 pub record AskInsertNote (notes : List ℕ) (count at : ℕ) : Type 0 where
   pub long : length notes ≡ spans-room * note-size

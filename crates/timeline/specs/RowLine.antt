@@ -45,6 +45,11 @@ slots room rows = rows ++ replicate (room - length rows) no-row
 abbrev pub column : (figure : Row → ℕ) → List Row → List ℕ
 column figure line = map figure (slots spans-room line)
 
+-- the begins and ends of rows, in their order on the line
+pub record SpansOf (rows : List Row) (begins ends : List ℕ) : Type 0 where
+  pub begins-are : begins ≡ column row-begin (line-of rows)
+  pub ends-are : ends ≡ column row-end (line-of rows)
+
 -- what is noted of a row: its label, its cost, and the last finish of its job
 abbrev pub note-of : (last : ℕ → ℕ) → Row → List ℕ
 note-of last row = holder-label (row .holder) ∷ row .cost ∷ last (row .job) ∷ []

@@ -1,7 +1,7 @@
 // What is noted of each span on the timeline: three figures each, in a lent row.
 use crate::SPANS;
 ghost use mathlib.Core.Path.{_≡_};
-ghost use Rattle.timeline.specs.Notes.{note-at, AskNote, AskInsertNote, NoteInserted};
+ghost use Rattle.timeline.specs.Notes.{note-at, AskNote, NotePut, AskInsertNote, NoteInserted};
 
 pub const NOTE: usize = 3;
 
@@ -26,6 +26,17 @@ pub fn note_at(notes: &[u64], i: usize) -> Note
     }
 }
 
+// Writes a note over the one at an index.
+pub fn put_note(notes: &mut [u64], i: usize, note: Note)
+    requires { ⌜ AskNote (now notes) i ⌝ }
+    ensures { λ _. ⌜ NotePut (now (notes .entry)) i note (now (notes .exit)) ⌝ }
+{
+    let at = i * NOTE;
+    notes[at + 0] = note.label;
+    notes[at + 1] = note.cost;
+    notes[at + 2] = note.last;
+}
+
 // Puts a note at an index of the first so many, and those from there on one place further.
 pub fn insert_note(notes: &mut [u64], count: usize, at: usize, note: Note)
     requires { ⌜ AskInsertNote (now notes) count at ⌝ }
@@ -37,7 +48,5 @@ pub fn insert_note(notes: &mut [u64], count: usize, at: usize, note: Note)
         i -= 1;
         notes[i + NOTE] = notes[i];
     }
-    notes[first + 0] = note.label;
-    notes[first + 1] = note.cost;
-    notes[first + 2] = note.last;
+    put_note(notes, at, note);
 }

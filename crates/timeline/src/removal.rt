@@ -1,5 +1,7 @@
 // The timeline without the rows that leave: the others keep their order, and zeros stand where they stood.
-use crate::notes::NOTE;
+use crate::notes::Note;
+use crate::notes::note_at;
+use crate::notes::put_note;
 use rules::ROWS;
 ghost use Rattle.timeline.specs.TakenOut.{AskLeaving, FirstLeaving, AskTakeOut, TakenOutIs};
 ghost use Rattle.timeline.specs.Packing.{PackedIs, AskClear, Cleared};
@@ -43,17 +45,14 @@ fn pack<'a>(
     let mut cost: u64 = 0;
     let mut i = from;
     while i < count {
-        let at = i * NOTE;
+        let note = note_at(notes, i);
         if leaves[i] {
-            cost += notes[at + 1];
+            cost += note.cost;
         } else {
-            let to = kept * NOTE;
             begins[kept] = begins[i];
             ends[kept] = ends[i];
             jobs[kept] = jobs[i];
-            notes[to + 0] = notes[at + 0];
-            notes[to + 1] = notes[at + 1];
-            notes[to + 2] = notes[at + 2];
+            put_note(notes, kept, note);
             kept += 1;
         }
         i += 1;
@@ -79,13 +78,18 @@ fn clear<'a>(
 {
     let mut i = from;
     while i < count {
-        let at = i * NOTE;
         begins[i] = 0;
         ends[i] = 0;
         jobs[i] = 0;
-        notes[at + 0] = 0;
-        notes[at + 1] = 0;
-        notes[at + 2] = 0;
+        put_note(
+            notes,
+            i,
+            Note {
+                label: 0,
+                cost: 0,
+                last: 0,
+            },
+        );
         i += 1;
     }
 }

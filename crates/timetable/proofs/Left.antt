@@ -1,38 +1,36 @@
 -- Withdrawals and clock moves over a timetable's columns: what the functions called are asked, and that what they ensure is the rules' step.
 use mathlib.Core.Path.{_≡_, refl, sym, ap, _∙_, subst}
-use mathlib.Core.Bool.{Bool, true, false, _&&_}
+use mathlib.Core.Bool.{Bool}
 use mathlib.Core.List.{List}
 use Prim.Native.Nat.{ℕ, _-_, _≤_, _<_}
 use native.Mathlib.Omega.{arith}
-use lib.Dec.{leb}
 use lib.ListN.{length}
-use borrow.Author.Tests.{eq-eqb, ne-eqb}
 use Rattle.rules.specs.declared.Row.{Row}
 use Rattle.rules.specs.declared.Setup.{Setup}
 use Rattle.rules.specs.declared.Answer.{Answer}
-use Rattle.rules.specs.Sequences.{any-of, keep}
-use Rattle.rules.specs.Words.{State, of-job, largest-number, row-limit}
-use Rattle.rules.specs.Placing.{no-row}
+use Rattle.rules.specs.Sequences.{keep}
+use Rattle.rules.specs.Words.{State, of-job, row-limit}
 use Rattle.rules.specs.Withdrawing.{withdraw, advance}
 use Rattle.rules.specs.Refusals.{Call, step, withdraws, advances, refusal}
-use Rattle.rules.proofs.Sequences.{any-mem, none-any, mem-getD, getD-mem, length-keep, sum-split}
+use Rattle.rules.proofs.Sequences.{length-keep, sum-split}
 use Rattle.timeline.specs.declared.notes.Note.{Note}
 use Rattle.timeline.specs.declared.removal.Left.{Left}
 use Rattle.timeline.specs.RowLine.{line-of, Says}
 use Rattle.timeline.specs.Notes.{note-at, AskNote}
 use Rattle.timeline.specs.TakenOut.{FirstLeaving, AskLeaving, AskTakeOut, TakenOutIs}
 use Rattle.timeline.proofs.Columns.{notes-long}
-use Rattle.timeline.proofs.Line.{line-long, line-has, line-from}
+use Rattle.timeline.proofs.Line.{line-long}
 use Rattle.timetable.specs.declared.Status.{Status}
 use Rattle.timetable.specs.declared.Outcome.{Outcome}
+use Rattle.timetable.specs.declared.withdrawal.Verdict.{Verdict}
 use Rattle.timetable.specs.Derived.{last-finish}
-use Rattle.timetable.specs.Marks.{AskJobs, PlaceOf, AskBegun, BegunIs, RowsOfIs, AskNotes, RowsEndedIs, SoonestIs, SoonestLeft, WholeJobs}
-use Rattle.timetable.specs.Timetables.{AdvancementIs}
-use Rattle.timetable.specs.Timetables.{TimetableOf, AskTimetable, Goes, CallIs}
-use Rattle.timetable.proofs.Steps.{StepIs, begun, withdraw-9, withdraw-10, withdraw-0, advance-refused, advance-accepted}
-use Rattle.timetable.proofs.Lines.{any-line}
+use Rattle.timetable.specs.Marks.{AskJobs, RowsOfIs, AskNotes, RowsEndedIs, SoonestIs, SoonestLeft, WholeJobs}
+use Rattle.timetable.specs.Timetables.{AskWithdrawal, WithdrawalIs, AdvancementIs}
+use Rattle.timetable.specs.Timetables.{TimetableOf, Long, AskTimetable, Goes, CallIs}
+use Rattle.timetable.proofs.Steps.{StepIs, refused, withdraw-accepted, advance-accepted}
 use Rattle.timetable.proofs.Noted.{last-at}
 use Rattle.timetable.proofs.Carried.{job-at}
+use Rattle.timetable.proofs.Judging.{job-held}
 use Rattle.timetable.proofs.Ends.{stay}
 use Rattle.timetable.proofs.Removed.{whole-job, past, whole-past, count-is, timetable-long, take-out-asked, place-first}
 use Rattle.timetable.proofs.Removed.{notes-left, count-left, cost-left, soonest-noted, soonest-left, withdrawn, advanced, quiet}
@@ -43,6 +41,26 @@ pub call-is :
     ((s : Setup) (st : State) → TimetableOf s st b e j n status → Goes s st c b′ e′ j′ n′ r) → CallIs c b e j n status b′ e′ j′ n′ r
 call-is ask goes = record { long = timetable-long (goes (ask .setup) (ask .state) (ask .is) .left); is = goes }
 
+-- so each is as long as it came
+pub record SameLong (b e j n b′ e′ j′ n′ : List ℕ) : Type 0 where
+  pub begins-same : length b′ ≡ length b
+  pub ends-same : length e′ ≡ length e
+  pub jobs-same : length j′ ≡ length j
+  pub notes-same : length n′ ≡ length n
+
+pub same-long : {b e j n b′ e′ j′ n′ : List ℕ} → Long b e j n → Long b′ e′ j′ n′ → SameLong b e j n b′ e′ j′ n′
+same-long before after = record {
+  begins-same = after .begins-long ∙ sym (before .begins-long);
+  ends-same = after .ends-long ∙ sym (before .ends-long);
+  jobs-same = after .jobs-long ∙ sym (before .jobs-long);
+  notes-same = after .notes-long ∙ sym (before .notes-long);
+}
+
+pub call-long :
+    {c : Call} {b e j n : List ℕ} {status : Status} {b′ e′ j′ n′ : List ℕ} {r : Outcome} → AskTimetable b e j n status →
+    CallIs c b e j n status b′ e′ j′ n′ r → SameLong b e j n b′ e′ j′ n′
+call-long ask call = same-long (timetable-long (ask .is)) (call .long)
+
 goes :
     {s : Setup} {st left : State} {c : Call} {number : ℕ} {b e j n : List ℕ} {status : Status} {a : Answer} → StepIs s st c number left →
     a ≡ refusal number 0 → TimetableOf s left b e j n status → Goes s st c b e j n (record { answer = a; status = status })
@@ -51,11 +69,11 @@ goes {s} {b = b} {e} {j} {n} {status} steps answer is = record {
   left = subst (λ left. TimetableOf s left b e j n status) (sym (steps .left-is)) is;
 }
 
--- an accepted clock move
-abbrev moved-to : (tick count total soonest : ℕ) → Outcome
-moved-to tick count total soonest = record {
+-- an accepted call
+abbrev accepted-as : (clock count total soonest : ℕ) → Outcome
+accepted-as clock count total soonest = record {
   answer = refusal 0 0;
-  status = record { clock = tick; count = count; total = total; soonest = soonest };
+  status = record { clock = clock; count = count; total = total; soonest = soonest };
 }
 
 module _ {s : Setup} {st : State} {b e j n : List ℕ} {status : Status} (is : TimetableOf s st b e j n status) where
@@ -64,9 +82,9 @@ module _ {s : Setup} {st : State} {b e j n : List ℕ} {status : Status} (is : T
 
   -- a refused call leaves the timetable
   pub refused-goes :
-      {c : Call} {number : ℕ} {a : Answer} {r : Outcome} → StepIs s st c number st → a ≡ refusal number 0 →
+      {c : Call} {number : ℕ} {a : Answer} {r : Outcome} → step s st c .answer ≡ refusal number 0 → (number ≡ 0 → ⊥) → a ≡ refusal number 0 →
       r ≡ record { answer = a; status = status } → Goes s st c b e j n r
-  refused-goes {c} steps answer r-is = subst (Goes s st c b e j n) (sym r-is) (goes steps answer is)
+  refused-goes {c} told ne answer r-is = subst (Goes s st c b e j n) (sym r-is) (goes (refused s st c told ne) answer is)
 
   few : status .count ≤ row-limit
   few = omega (arith, count-is is, line-long (st .rows), is .bounded .count)
@@ -103,143 +121,70 @@ module _ {s : Setup} {st : State} {b e j n : List ℕ} {status : Status} (is : T
         )
 
   -- Withdrawals.
-  module _ {number : ℕ} where
-    -- 9: no row carries a number past the largest
-    pub past-largest : largest-number < number → StepIs s st (withdraws number) 9 st
-    past-largest over =
-        withdraw-9
-        s
-        st
-        number
-        (none-any
-        (of-job number)
-        (st .rows)
-        (λ row m. ne-eqb (row .job) number (λ same. let most = is .bounded .rows row m .job .last in omega arith)))
+  pub withdrawal-asked : AskWithdrawal j b (status .count)
+  withdrawal-asked = record { jobs-long = timetable-long is .jobs-long; begins-long = timetable-long is .begins-long; few = few }
 
-    -- 9: the search for the first that carries it went past all
-    pub no-place : {from : ℕ} → PlaceOf j (status .count) number from → from ≡ status .count → StepIs s st (withdraws number) 9 st
-    no-place place none =
-        withdraw-9
-        s
-        st
-        number
-        (none-any
-        (of-job number)
-        (st .rows)
-        (λ row m.
-        let at = mem-getD no-row (line-has (st .rows) m) in
-        ne-eqb
-        (row .job)
-        number
-        (λ same.
-        place .none-before
-        (at .0)
-        (omega (arith, at .1, count-is is))
-        (job-at line (is .jobs-are) (at .0) (at .1) ∙ ap (λ x. x .job) (at .2) ∙ same))))
+  module _ {number : ℕ} {judged : Verdict} (told : WithdrawalIs j b status number judged) (passed : judged .number ≡ 0) where
+    stands : judged .from < status .count
+    stands = told .there passed
 
-    module _ {from : ℕ} (place : PlaceOf j (status .count) number from) where
-      pub begun-asked : AskBegun j b (status .count) number from
-      begun-asked = record {
-        jobs-long = timetable-long is .jobs-long;
-        begins-long = timetable-long is .begins-long;
-        few = few;
-        at-most = place .at-most;
-        none-before = place .none-before;
-      }
+    on-line : judged .from < length line
+    on-line = omega (arith, stands, count-is is)
 
-      pub note-asked : AskNote n from
-      note-asked = record { long = timetable-long is .notes-long; there = omega (arith, place .at-most, few) }
+    pub note-asked : AskNote n (judged .from)
+    note-asked = record { long = timetable-long is .notes-long; there = omega (arith, stands, few) }
 
-      module _ (there : from ≡ status .count → ⊥) where
-        stands : from < status .count
-        stands = let most = place .at-most in omega (arith, there)
+    -- the note of the first row of the job has the last finish of the job
+    last-noted : {first : Note} → first ≡ note-at n (judged .from) → first .last ≡ last-finish (st .rows) number
+    last-noted first-is =
+        ap (λ note. note .last) first-is
+        ∙ last-at (last-finish (st .rows)) line (is .notes-are) (judged .from) on-line
+        ∙ ap (last-finish (st .rows)) (sym (job-at line (is .jobs-are) (judged .from) on-line) ∙ told .place passed .here stands)
 
-        on-line : from < length line
-        on-line = omega (arith, stands, count-is is)
+    withdraws-so : StepIs s st (withdraws number) 0 (withdraw st number)
+    withdraws-so = withdraw-accepted s st number (told .answer-is s st e n is ∙ ap (λ k. refusal k 0) passed)
 
-        held : any-of (of-job number) (st .rows) ≡ true
-        held =
-            any-mem
-            (of-job number)
-            (line-from (st .rows) (getD-mem line from no-row on-line))
-            (eq-eqb _ number (sym (job-at line (is .jobs-are) from on-line) ∙ place .here stands))
+    module _ {leaves : List Bool} (of : RowsOfIs j (status .count) number leaves) where
+      job-says : Says (of-job number) line leaves
+      job-says = of line (count-is is) (is .jobs-are)
 
-        begun-is : {r : Bool} → BegunIs j b (status .count) number (status .clock) r → any-of (begun st number) (st .rows) ≡ r
-        begun-is found =
-            ap (λ clock. any-of (λ row. of-job number row && leb (row .start) clock) (st .rows)) (sym (ap (λ x. x .clock) (is .status-is)))
-            ∙ sym (any-line _ (st .rows))
-            ∙ sym
-            (found
-            line
-            (count-is is)
-            (λ i h.
-            let there : i < length line = omega (arith, count-is is) in
-            let ranged = is .bounded .rows _ (line-from (st .rows) (getD-mem line i no-row there)) in
-            omega (arith, ranged .lasts, ranged .ends))
-            (is .jobs-are)
-            (is .spans .begins-are))
+      pub withdraw-asked : AskTakeOut b e j n leaves (judged .from) (status .count)
+      withdraw-asked = take-out-asked is job-says (place-first is job-says (told .place passed))
 
-        module _ {r : Bool} (found : BegunIs j b (status .count) number (status .clock) r) where
-          -- 10
-          pub has-begun : r ≡ true → StepIs s st (withdraws number) 10 st
-          has-begun so = withdraw-10 s st number held (begun-is found ∙ so)
+      module _ {b′ e′ j′ n′ : List ℕ} {left : Left} (taken : TakenOutIs b e j n leaves (status .count) b′ e′ j′ n′ left) where
+        pub withdraw-left : AskNotes n′ (left .count)
+        withdraw-left = left-asked (whole-job number (st .rows)) job-says taken
 
-          not-begun : r ≡ false → StepIs s st (withdraws number) 0 (withdraw st number)
-          not-begun so = withdraw-0 s st number held (begun-is found ∙ so)
+        pub withdraw-cost : left .cost ≤ status .total
+        withdraw-cost = cost-within (whole-job number (st .rows)) job-says taken
 
-      module _ {leaves : List Bool} (of : RowsOfIs j (status .count) number leaves) where
-        job-says : Says (of-job number) line leaves
-        job-says = of line (count-is is) (is .jobs-are)
-
-        pub withdraw-asked : AskTakeOut b e j n leaves from (status .count)
-        withdraw-asked = take-out-asked is job-says (place-first is job-says place)
-
-        module _ {b′ e′ j′ n′ : List ℕ} {left : Left} (taken : TakenOutIs b e j n leaves (status .count) b′ e′ j′ n′ left) where
-          pub withdraw-left : AskNotes n′ (left .count)
-          withdraw-left = left-asked (whole-job number (st .rows)) job-says taken
-
-          pub withdraw-cost : left .cost ≤ status .total
-          withdraw-cost = cost-within (whole-job number (st .rows)) job-says taken
-
-          pub withdraw-goes :
-              (from ≡ status .count → ⊥) → {r : Bool} → BegunIs j b (status .count) number (status .clock) r → r ≡ false →
-              {first : Note} → first ≡ note-at n from →
-              {soonest : ℕ} → SoonestLeft n′ (left .count) (status .soonest) (first .last) soonest →
-              {a : Answer} → a ≡ refusal 0 0 →
-              Goes s st (withdraws number) b′ e′ j′ n′
-              (record {
-                answer = a;
-                status = record { clock = status .clock; count = left .count; total = status .total - left .cost; soonest = soonest };
-              })
-          withdraw-goes there found so first-is soonest answer =
-              let steps = not-begun there found so in
-              let last-is =
-              ap (λ note. note .last) first-is
-              ∙ last-at (last-finish (st .rows)) line (is .notes-are) from (on-line there)
-              ∙ ap (last-finish (st .rows)) (sym (job-at line (is .jobs-are) from (on-line there)) ∙ place .here (stands there))
-              in
-              goes
-              steps
-              answer
-              (withdrawn is number job-says taken _ (soonest-left is number job-says taken (held there) last-is soonest) steps)
+        pub withdraw-goes :
+            {first : Note} → first ≡ note-at n (judged .from) →
+            {soonest : ℕ} → SoonestLeft n′ (left .count) (status .soonest) (first .last) soonest →
+            {r : Outcome} → r ≡ accepted-as (status .clock) (left .count) (status .total - left .cost) soonest →
+            Goes s st (withdraws number) b′ e′ j′ n′ r
+        withdraw-goes first-is soonest r-is =
+            let held = job-held is (told .place passed) stands in
+            let soonest-is = soonest-left is number job-says taken held (last-noted first-is) soonest in
+            subst
+            (Goes s st (withdraws number) b′ e′ j′ n′)
+            (sym r-is)
+            (goes withdraws-so refl (withdrawn is number job-says taken _ soonest-is withdraws-so))
 
   -- Clock moves.
   module _ (tick : ℕ) where
     module _ (number : ℕ) (told : AdvancementIs (status .clock) tick number) where
-      told-here : step s st (advances tick) .answer ≡ refusal number 0
+      pub told-here : step s st (advances tick) .answer ≡ refusal number 0
       told-here = told s st (ap (λ x. x .clock) (is .status-is))
-
-      pub clock-refused : (number ≡ 0 → ⊥) → StepIs s st (advances tick) number st
-      clock-refused ne = advance-refused s st tick told-here ne
 
       module _ (passed : number ≡ 0) where
         clock-moves : StepIs s st (advances tick) 0 (advance st tick)
-        clock-moves = advance-accepted s st tick told-here passed
+        clock-moves = advance-accepted s st tick (told-here ∙ ap (λ k. refusal k 0) passed)
 
         -- before the soonest end
         pub quiet-goes :
             tick < status .soonest →
-            {r : Outcome} → r ≡ moved-to tick (status .count) (status .total) (status .soonest) → Goes s st (advances tick) b e j n r
+            {r : Outcome} → r ≡ accepted-as tick (status .count) (status .total) (status .soonest) → Goes s st (advances tick) b e j n r
         quiet-goes early r-is = subst (Goes s st (advances tick) b e j n) (sym r-is) (goes clock-moves refl (quiet is tick early clock-moves))
 
     module _ {leaves : List Bool} (ended : RowsEndedIs n (status .count) tick leaves) where
@@ -261,7 +206,7 @@ module _ {s : Setup} {st : State} {b e j n : List ℕ} {status : Status} (is : T
 
         pub advance-goes :
             (number : ℕ) → AdvancementIs (status .clock) tick number → number ≡ 0 → {soonest : ℕ} → SoonestIs n′ (left .count) soonest →
-            {r : Outcome} → r ≡ moved-to tick (left .count) (status .total - left .cost) soonest → Goes s st (advances tick) b′ e′ j′ n′ r
+            {r : Outcome} → r ≡ accepted-as tick (left .count) (status .total - left .cost) soonest → Goes s st (advances tick) b′ e′ j′ n′ r
         advance-goes number told passed soonest r-is =
             let steps = clock-moves number told passed in
             let soonest-is = soonest-noted is (whole-past (st .rows) tick) ended-says taken soonest in

@@ -8,4 +8,5 @@ pub mod Extremes
 pub mod Lines
 pub mod Ends
 pub mod Removed
+pub mod Judging
 pub mod Left

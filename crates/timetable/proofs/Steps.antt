@@ -2,7 +2,6 @@
 use mathlib.Core.Path.{_≡_, refl, ap, _∙_}
 use mathlib.Core.Bool.{Bool, true, false, not, _&&_}
 use Prim.Native.Nat.{ℕ, _≤_, _<_}
-use native.Mathlib.Omega.{arith}
 use lib.Dec.{leb}
 use borrow.Author.Tests.{lt-ltb, le-ltb, ne-eqb}
 use Rattle.rules.specs.declared.Row.{Row}
@@ -35,9 +34,9 @@ module _ (s : Setup) (st : State) where
   -- Withdrawals.
 
   module _ (n : ℕ) where
-    pub withdraw-9 : any-of (of-job n) (st .rows) ≡ false → StepIs s st (withdraws n) 9 st
+    pub withdraw-9 : any-of (of-job n) (st .rows) ≡ false → step s st (withdraws n) .answer ≡ refusal 9 0
     unfolding step settle withdraw-answer withdraw-tests
-    withdraw-9 none = refused (withdraws n) (judged-first _ (here refl (ap (λ b. refuse-if (not b)) none))) (λ e. absurd (omega arith))
+    withdraw-9 none = judged-first _ (here refl (ap (λ b. refuse-if (not b)) none))
 
     module _ (held : any-of (of-job n) (st .rows) ≡ true) where
       held-passed : LeftAfter 9 (withdraw-tests (view st) n)
@@ -47,18 +46,17 @@ module _ (s : Setup) (st : State) where
       begun-is : any-of (λ row. leb (row .start) (st .calendar .clock)) (view st .rows-of n) ≡ any-of (begun st n) (st .rows)
       begun-is = any-keep (λ row. leb (row .start) (st .calendar .clock)) (of-job n) (st .rows)
 
-      pub withdraw-10 : any-of (begun st n) (st .rows) ≡ true → StepIs s st (withdraws n) 10 st
+      pub withdraw-10 : any-of (begun st n) (st .rows) ≡ true → step s st (withdraws n) .answer ≡ refusal 10 0
       unfolding step settle withdraw-answer withdraw-tests
-      withdraw-10 some =
-          refused (withdraws n) (judged-first _ (held-passed .first (here refl (ap refuse-if (begun-is ∙ some))))) (λ e. absurd (omega arith))
+      withdraw-10 some = judged-first _ (held-passed .first (here refl (ap refuse-if (begun-is ∙ some))))
 
-      withdraw-passes : any-of (begun st n) (st .rows) ≡ false → step s st (withdraws n) .answer ≡ refusal 0 0
+      pub withdraw-0 : any-of (begun st n) (st .rows) ≡ false → step s st (withdraws n) .answer ≡ refusal 0 0
       unfolding step settle withdraw-answer withdraw-tests
-      withdraw-passes none = judged-passed _ (passed held-passed (ap refuse-if (begun-is ∙ none)) .clear end)
+      withdraw-0 none = judged-passed _ (passed held-passed (ap refuse-if (begun-is ∙ none)) .clear end)
 
-      pub withdraw-0 : any-of (begun st n) (st .rows) ≡ false → StepIs s st (withdraws n) 0 (withdraw st n)
-      unfolding step settle
-      withdraw-0 none = record { answer-is = withdraw-passes none; left-is = rw (ap (λ a. a .number) (withdraw-passes none)) refl }
+    pub withdraw-accepted : step s st (withdraws n) .answer ≡ refusal 0 0 → StepIs s st (withdraws n) 0 (withdraw st n)
+    unfolding step settle
+    withdraw-accepted is = record { answer-is = is; left-is = rw (ap (λ a. a .number) is) refl }
 
   -- Clock moves.
 
@@ -80,14 +78,6 @@ module _ (s : Setup) (st : State) where
       unfolding step settle advance-answer advance-tests
       advance-0 within = judged-passed _ (passed ahead-passed (ap refuse-if (le-ltb horizon tick within)) .clear end)
 
-    module _ {number : ℕ} (is : step s st (advances tick) .answer ≡ refusal number 0) where
-      pub advance-refused : (number ≡ 0 → ⊥) → StepIs s st (advances tick) number st
-      advance-refused ne = refused (advances tick) is ne
-
-      module _ (zero : number ≡ 0) where
-        is-accepted : step s st (advances tick) .answer ≡ refusal 0 0
-        is-accepted = is ∙ ap (λ k. refusal k 0) zero
-
-        pub advance-accepted : StepIs s st (advances tick) 0 (advance st tick)
-        unfolding step settle
-        advance-accepted = record { answer-is = is-accepted; left-is = rw (ap (λ a. a .number) is-accepted) refl }
+    pub advance-accepted : step s st (advances tick) .answer ≡ refusal 0 0 → StepIs s st (advances tick) 0 (advance st tick)
+    unfolding step settle
+    advance-accepted is = record { answer-is = is; left-is = rw (ap (λ a. a .number) is) refl }

@@ -4,6 +4,7 @@ pub mod answers;
 pub mod clock;
 pub mod held;
 pub mod removal;
+pub mod withdrawal;
 
 use rules::Answer;
 use rules::HORIZON;

@@ -4,12 +4,10 @@ use crate::Status;
 use crate::answers::refusal;
 use crate::answers::unchanged;
 use crate::clock::advancement;
-use crate::held::has_begun;
-use crate::held::place_of;
 use crate::held::rows_ended;
 use crate::held::rows_of;
 use crate::held::soonest_of;
-use rules::LAST_JOB;
+use crate::withdrawal::withdrawal;
 use timeline::notes::note_at;
 use timeline::removal::first_leaving;
 use timeline::removal::take_out;
@@ -29,7 +27,7 @@ fn soonest_left(notes: &[u64], count: usize, soonest: u64, last: u64) -> u64
     soonest_of(notes, count)
 }
 
-// 9: the job is not held. 10: one of its rows starts at or before the clock. Else its rows leave.
+// The rows of a job leave, unless it is not held or has begun.
 pub fn withdraw<'a>(
     begins: &'a mut [u64],
     ends: &'a mut [u64],
@@ -42,29 +40,17 @@ pub fn withdraw<'a>(
     ensures { λ r. ⌜ CallIs (withdraws number) (now (begins .entry)) (now (ends .entry)) (now (jobs .entry)) (now (notes .entry)) status
         (now (begins .exit)) (now (ends .exit)) (now (jobs .exit)) (now (notes .exit)) r ⌝ }
 {
-    if LAST_JOB < number {
-        return unchanged(refusal(9, 0), status);
+    let judged = withdrawal(jobs, begins, status, number);
+    if judged.number != 0 {
+        return unchanged(refusal(judged.number, 0), status);
     }
     let job = number as u16;
-    let from = place_of(jobs, status.count, job);
-    if from == status.count {
-        return unchanged(refusal(9, 0), status);
-    }
-    if has_begun(jobs, begins, status.count, job, from, status.clock) {
-        return unchanged(refusal(10, 0), status);
-    }
+    let from = judged.from;
     let leaves = rows_of(jobs, status.count, job);
     let first = note_at(notes, from);
     let left = take_out(begins, ends, jobs, notes, &leaves, from, status.count);
-    Outcome {
-        answer: refusal(0, 0),
-        status: Status {
-            clock: status.clock,
-            count: left.count,
-            total: status.total - left.cost,
-            soonest: soonest_left(notes, left.count, status.soonest, first.last),
-        },
-    }
+    let soonest = soonest_left(notes, left.count, status.soonest, first.last);
+    accepted(status.clock, left.count, status.total - left.cost, soonest)
 }
 
 // Jobs that have ended leave. Before the soonest end none has, and no row is looked at.
@@ -85,23 +71,23 @@ pub fn advance<'a>(
         return unchanged(refusal(number, 0), status);
     }
     if tick < status.soonest {
-        return moved(tick, status.count, status.total, status.soonest);
+        return accepted(tick, status.count, status.total, status.soonest);
     }
     let leaves = rows_ended(notes, status.count, tick);
     let from = first_leaving(&leaves, status.count);
     let left = take_out(begins, ends, jobs, notes, &leaves, from, status.count);
     let soonest = soonest_of(notes, left.count);
-    moved(tick, left.count, status.total - left.cost, soonest)
+    accepted(tick, left.count, status.total - left.cost, soonest)
 }
 
-// An accepted clock move.
-fn moved(tick: u64, count: usize, total: u64, soonest: u64) -> Outcome
-    ensures { λ r. ⌜ r ≡ record { answer = refusal-of 0 0; status = record { clock = tick; count = count; total = total; soonest = soonest } } ⌝ }
+// An accepted call.
+fn accepted(clock: u64, count: usize, total: u64, soonest: u64) -> Outcome
+    ensures { λ r. ⌜ r ≡ record { answer = refusal-of 0 0; status = record { clock = clock; count = count; total = total; soonest = soonest } } ⌝ }
 {
     Outcome {
         answer: refusal(0, 0),
         status: Status {
-            clock: tick,
+            clock: clock,
             count: count,
             total: total,
             soonest: soonest,

@@ -9,9 +9,9 @@ use Rattle.rules.specs.Words.{default-setup}
 use Rattle.rules.proofs.DefaultTables.{default-sound}
 use Rattle.texts.specs.Reader.{default-machines}
 use Rattle.figures.specs.Tables.{TableOf}
-use Rattle.admission.specs.declared.calls.Kind.{Kind}
+use Rattle.rules.specs.declared.Kind.{Kind}
 use Rattle.timetable.specs.Timetables.{Long}
-use Rattle.admission.specs.Called.{Calling}
+use Rattle.script.specs.Called.{Calling}
 use Rattle.script.specs.declared.acts.ActRead.the-variants.{Called}
 use Rattle.script.specs.Acts.{act}
 use Rattle.script.specs.Parts.{ActSays}

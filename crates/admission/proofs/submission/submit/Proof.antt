@@ -1,7 +1,9 @@
 -- `admission::submission::submit` meets its contract: refused by the tests or after placing, or the new rows have joined the columns.
+use mathlib.Core.Path.{refl}
 use native.Mathlib.Omega.{arith}
 use borrow.Author.Needs.{needs}
 use Rattle.admission.proofs.Submitted.{tested-asked, early-refused, judged-asked, late-refused, rows-fit, cost-fits, joins-asked, number-fits, accepted-submit}
+use Rattle.admission.proofs.Submitted.{submitted-long}
 use Rattle.admission.proofs.submission.submit.Statement.{statement}
 use Rattle.admission.proofs.submission.submit.Tie as tie
 
@@ -77,19 +79,27 @@ returns-3 c =
     accepted-submit (start (tests at) .pre) (tests at .tested .ensures) (passed at .if1 .left) (at .judged .ensures) (free .if2 .left)
     (named .before .before .before .before .last-of .ensures) (named .number-of .ensures) (put .join .ensures) _ (c .earlier .ensures)
 
+-- The submission that an answer comes of.
+
+abbrev late : tie.After-unchanged2 → tie.Start
+late c = start (tests (judged (c .before .before)))
+
+abbrev settled : tie.After-earlier → tie.Start
+settled c = start (tests (judged (accepted (joined (c .before .before .before) .before) .before)))
+
 pub submit-spec : {M : Type 1} → statement M
 submit-spec =
     tie.close
     (tie.spec
     tested-requires
     (λ c κs. search needs)
-    (λ c. search needs)
+    (λ c. refl)
     returns
     judged-requires
     (λ c κs. search needs)
-    (λ c. search needs)
-    (λ c. search needs)
-    (λ c. search needs)
+    (λ c. submitted-long (late c .pre) (returns-2 c) .begins-same)
+    (λ c. submitted-long (late c .pre) (returns-2 c) .ends-same)
+    (λ c. refl)
     returns-2
     (λ c κs. search needs)
     (λ c κs. search needs)
@@ -98,8 +108,8 @@ submit-spec =
     add-t30
     add-t28
     (λ c κs. search needs)
-    (λ c. search needs)
-    (λ c. search needs)
-    (λ c. search needs)
-    (λ c. search needs)
+    (λ c. submitted-long (settled c .pre) (returns-3 c) .begins-same)
+    (λ c. submitted-long (settled c .pre) (returns-3 c) .ends-same)
+    (λ c. submitted-long (settled c .pre) (returns-3 c) .jobs-same)
+    (λ c. submitted-long (settled c .pre) (returns-3 c) .notes-same)
     returns-3)

@@ -3,7 +3,7 @@ use mathlib.Core.Path.{refl}
 use native.Mathlib.Omega.{arith}
 use borrow.Author.Needs.{needs}
 use Rattle.rules.specs.Refusals.{advances}
-use Rattle.admission.specs.declared.calls.Kind.the-variants.{Advance}
+use Rattle.rules.specs.declared.Kind.the-variants.{Advance}
 use Rattle.script.specs.Keys.{tick-key}
 use Rattle.script.proofs.Acted.{NumberLine, number-line, number-asked}
 use Rattle.script.proofs.acts.advance_act.Statement.{statement}

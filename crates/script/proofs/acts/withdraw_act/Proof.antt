@@ -3,7 +3,7 @@ use mathlib.Core.Path.{refl}
 use native.Mathlib.Omega.{arith}
 use borrow.Author.Needs.{needs}
 use Rattle.rules.specs.Refusals.{withdraws}
-use Rattle.admission.specs.declared.calls.Kind.the-variants.{Withdraw}
+use Rattle.rules.specs.declared.Kind.the-variants.{Withdraw}
 use Rattle.script.specs.Keys.{job-key}
 use Rattle.script.proofs.Acted.{NumberLine, number-line, number-asked}
 use Rattle.script.proofs.acts.withdraw_act.Statement.{statement}

@@ -1,9 +1,8 @@
 -- `timeline::notes::insert_note` meets its contract: from i on all figures stand a note further.
 use native.Mathlib.Omega.{arith}
 use Prim.Native.Nat.{_*_}
-use lib.ListN.{length-set}
 use Rattle.timeline.specs.RowLine.{note-size}
-use Rattle.timeline.proofs.Inserted.{Shifted, noted-none, noted-more, noted-put}
+use Rattle.timeline.proofs.Inserted.{Shifted, noted-none, noted-more, put-asked, noted-put}
 use Rattle.timeline.proofs.notes.insert_note.Statement.{statement}
 use Rattle.timeline.proofs.notes.insert_note.Tie as tie
 
@@ -14,10 +13,16 @@ abbrev μ-loop : tie.MeasureT-loop
 μ-loop notes₀ count at note first i₀ notes i = i
 
 loop-again : tie.Need-loop-again Inv-loop μ-loop
-loop-again c = let head = c .before .before in noted-more (head .before .pre) (head .loop .inv) (c .before .loop-test .taken)
+loop-again c = let head = c .before .before in noted-more (head .before .before .pre) (head .loop .inv) (c .before .loop-test .taken)
+
+put-note-requires : tie.Need-put-note-requires Inv-loop μ-loop
+put-note-requires c κs = let head = c .before .before in put-asked (head .before .before .pre) (head .loop .inv)
 
 returns : tie.Need-returns Inv-loop μ-loop
-returns c = let head = c .before in noted-put (head .before .pre) (head .loop .inv) _ (c .loop-test .left)
+returns c =
+    let put = c .before .before in
+    let head = put .before .before .before in
+    noted-put (head .before .before .pre) (head .loop .inv) (put .before .before .loop-test .left) (put .put-note .ensures)
 
 pub insert-note-spec : {M : Type 1} → statement M
 insert-note-spec =
@@ -27,7 +32,7 @@ insert-note-spec =
     μ-loop
     (λ c. omega arith)
     (λ c. omega arith)
-    (λ c. noted-none (c .pre))
+    (λ c. noted-none (c .before .pre))
     (λ c. omega arith)
     (λ c. omega arith)
     (λ c. omega arith)
@@ -36,14 +41,6 @@ insert-note-spec =
     (λ c. omega arith)
     (λ c. omega arith)
     loop-again
-    (λ c. omega arith)
-    (λ c. omega arith)
-    (λ c. omega arith)
-    (λ c. omega arith)
-    (λ c. omega arith)
-    (λ c. simp length-set (omega arith))
-    (λ c. omega arith)
-    (λ c. omega arith)
-    (λ c. simp length-set (omega arith))
+    put-note-requires
     (λ c. returns c .long)
     returns)

@@ -1,8 +1,7 @@
 -- `timeline::removal::clear` meets its contract: from the index on up to i every entry is blank, and all else is as before.
 use native.Mathlib.Omega.{arith}
 use Prim.Native.Nat.{_-_}
-use lib.ListN.{length-set}
-use Rattle.timeline.proofs.Clearing.{Clearing, clearing-none, clearing-more, clearing-all}
+use Rattle.timeline.proofs.Clearing.{Clearing, clearing-none, note-asked, clearing-more, clearing-all}
 use Rattle.timeline.proofs.removal.clear.Statement.{statement}
 use Rattle.timeline.proofs.removal.clear.Tie as tie
 
@@ -13,8 +12,19 @@ Inv-loop begins₀ ends₀ jobs₀ notes₀ from count i₀ begins ends jobs not
 abbrev μ-loop : tie.MeasureT-loop
 μ-loop begins₀ ends₀ jobs₀ notes₀ from count i₀ begins ends jobs notes i = count - i
 
+abbrev start : tie.At-loop Inv-loop μ-loop → tie.Start Inv-loop μ-loop
+start c = c .before .before .before .before .before
+
+put-note-requires : tie.Need-put-note-requires Inv-loop μ-loop
+put-note-requires c κs =
+    let head = c .before .before in
+    note-asked (head .loop .inv) (start head .pre) (c .before .loop-test .taken)
+
 loop-again : tie.Need-loop-again Inv-loop μ-loop
-loop-again c = clearing-more (c .before .loop .inv) (c .before .before .pre) (c .loop-test .taken)
+loop-again c =
+    let put = c .before .before in
+    let turn = put .before .before in
+    clearing-more (turn .before .loop .inv) (start (turn .before) .pre) (turn .loop-test .taken) (put .put-note .ensures)
 
 pub clear-spec : {M : Type 1} → statement M
 clear-spec =
@@ -29,16 +39,7 @@ clear-spec =
     (λ c. omega arith)
     (λ c. omega arith)
     (λ c. omega arith)
-    (λ c. omega arith)
-    (λ c. omega arith)
-    (λ c. omega arith)
-    (λ c. omega arith)
-    (λ c. omega arith)
-    (λ c. omega arith)
-    (λ c. simp length-set (omega arith))
-    (λ c. omega arith)
-    (λ c. omega arith)
-    (λ c. simp length-set (omega arith))
+    put-note-requires
     (λ c. omega arith)
     (λ c. omega arith)
     loop-again

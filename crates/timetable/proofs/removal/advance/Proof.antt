@@ -1,6 +1,6 @@
 -- `timetable::removal::advance` meets its contract: a refused move, one before the soonest end, or the ended jobs' rows taken out.
 use borrow.Author.Needs.{needs}
-use Rattle.timetable.proofs.Left.{call-is, refused-goes, clock-refused, quiet-goes, notes-asked, leaving-asked}
+use Rattle.timetable.proofs.Left.{call-is, call-long, refused-goes, told-here, quiet-goes, notes-asked, leaving-asked}
 use Rattle.timetable.proofs.Left.{advance-asked, advance-left, advance-cost, advance-goes}
 use Rattle.timetable.proofs.removal.advance.Statement.{statement}
 use Rattle.timetable.proofs.removal.advance.Tie as tie
@@ -19,6 +19,10 @@ marked c = c .before .before .before .before .before .before .before .before
 abbrev taken : tie.After-soonest-of-arg → tie.After-take-out
 taken c = c .before .before .before .before .before .before .before .before .before
 
+-- the call that what is left comes of
+abbrev asked : tie.After-soonest-of-arg → tie.Start
+asked c = start (told (marked (taken c)))
+
 returns : tie.Need-returns
 returns c =
     let test = c .before .before in
@@ -27,7 +31,8 @@ returns c =
     (λ s st is.
     refused-goes
     is
-    (clock-refused is _ _ (test .before .advancement .ensures) (test .if1 .taken))
+    (told-here is _ _ (test .before .advancement .ensures))
+    (test .if1 .taken)
     (c .before .refusal .ensures)
     (c .unchanged .ensures))
 
@@ -36,7 +41,7 @@ returns-2 c =
     let test = c .before .before .before in
     call-is
     (start (test .before) .pre)
-    (λ s st is. quiet-goes is _ _ (test .before .advancement .ensures) (test .if1 .left) (c .before .if2 .taken) (c .moved .ensures))
+    (λ s st is. quiet-goes is _ _ (test .before .advancement .ensures) (test .if1 .left) (c .before .if2 .taken) (c .accepted .ensures))
 
 rows-ended-requires : tie.Need-rows-ended-requires
 rows-ended-requires c κs = notes-asked (start (c .before .before .before .before) .pre .is)
@@ -56,8 +61,8 @@ soonest-of-requires c κs =
     let rows = marked out in
     advance-left (start (told rows) .pre .is) _ (rows .rows-ended .ensures) (out .take-out .ensures)
 
-sub-moved : tie.Need-sub-moved
-sub-moved c =
+sub-accepted : tie.Need-sub-accepted
+sub-accepted c =
     let out = taken (c .before .before .before) in
     let rows = marked out in
     advance-cost (start (told rows) .pre .is) _ (rows .rows-ended .ensures) (out .take-out .ensures)
@@ -79,7 +84,7 @@ returns-3 c =
     (told rows .advancement .ensures)
     (rows .before .before .before .before .if1 .left)
     (read .soonest-of .ensures)
-    (c .moved2 .ensures))
+    (c .accepted2 .ensures))
 
 pub advance-spec : {M : Type 1} → statement M
 advance-spec =
@@ -95,10 +100,10 @@ advance-spec =
     first-leaving-requires
     take-out-requires
     soonest-of-requires
-    sub-moved
+    sub-accepted
     (λ c κs. search needs)
-    (λ c. search needs)
-    (λ c. search needs)
-    (λ c. search needs)
-    (λ c. search needs)
+    (λ c. call-long (asked (c .before .before .before .before) .pre) (returns-3 c) .begins-same)
+    (λ c. call-long (asked (c .before .before .before .before) .pre) (returns-3 c) .ends-same)
+    (λ c. call-long (asked (c .before .before .before .before) .pre) (returns-3 c) .jobs-same)
+    (λ c. call-long (asked (c .before .before .before .before) .pre) (returns-3 c) .notes-same)
     returns-3)

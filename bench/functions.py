@@ -66,9 +66,10 @@ def kit_apart(kit, folder):
                 (folder / inner / entry.name).symlink_to(entry)
     compiler = folder / tools / "clang"
     compiler.unlink()
-    compiler.write_text(f'#!/bin/sh\nexec python3 "{pathlib.Path(__file__).resolve()}" "$@"\n')
+    real, own_file = (kit / tools / "clang").resolve(), pathlib.Path(__file__).resolve()
+    compiler.write_text(f'#!/bin/sh\n{COMPILER}="{real}" exec "{sys.executable}" "{own_file}" "$@"\n')  # it is called with no environment
     compiler.chmod(0o755)
-    return {"RATTLE_HOME": str(folder), COMPILER: str((kit / tools / "clang").resolve())}
+    return {"RATTLE_HOME": str(folder)}
 
 
 def build(root, apart):

@@ -76,7 +76,7 @@ size_t register_run(const uint8_t *input, size_t length, uint8_t *output);
 #define REGISTER_FIGURE_MOST UINT64_C(9999999999)
 
 /* The stack that a call of register_write_job may need, in bytes. */
-#define REGISTER_WRITE_JOB_STACK 1024
+#define REGISTER_WRITE_JOB_STACK 9216
 
 /* The answers of register_write_job. It gives no other. */
 #define REGISTER_WRITTEN 0

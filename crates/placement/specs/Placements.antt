@@ -1,4 +1,4 @@
--- Between functions: what placing a whole job asks and gives, offered to the crate `timetable`.
+-- Between functions: what placing a whole job asks and gives, offered to the crate `admission`.
 use mathlib.Core.Path.{_≡_}
 use mathlib.Core.List.{List, _++_, List·Memᴰ}
 use Prim.Native.Nat.{ℕ, zero, suc, _+_, _≤_}

@@ -1,2 +1,4 @@
 // Submissions over a timetable that is lent as columns.
+#![tactic(auto)]
+
 pub mod submission;

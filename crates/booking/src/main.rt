@@ -1,4 +1,6 @@
 // Makes calls in a row on a register, each handed what the last one left, and prints their answers.
+#![tactic(auto)]
+
 mod calls;
 mod counting;
 mod examples;

@@ -1,4 +1,6 @@
 // Jobs from their parts, for tests. Entries past a job's counts are blank.
+#![tactic(auto)]
+
 ghost use Rattle.std.specs.Prelude.{◌≡◌};
 
 use rules::{DEFAULT_MACHINES, Job, MACHINES, MESSAGES, Message, TASKS, Task};

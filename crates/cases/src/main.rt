@@ -1,5 +1,7 @@
 // Runs the program `register` on every case of a container, and compares what it would write with what is expected. A case is a line
 // `script=N` and N bytes, a line `output=M` and M bytes.
+#![tactic(auto)]
+
 ghost use Rattle.std.specs.Prelude.{◌+◌, ◌≤◌, length};
 ghost use Rattle.cases.specs.Cases.{PartIs, CaseIs};
 
@@ -12,14 +14,14 @@ use script::{OUTPUT, run};
 const SIZE: usize = 524_288;
 
 // A part of the container: its first byte and the place after its last; or the container is not as its form says.
-#[derive(Drop)]
+#[derive(Clone, Copy)]
 enum Part {
     Bytes(usize, usize),
     Ill,
 }
 
 // A case: whether the output is the expected one, and the place after it.
-#[derive(Drop)]
+#[derive(Clone, Copy)]
 enum Case {
     Checked(bool, usize),
     Unread,

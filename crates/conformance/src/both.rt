@@ -10,7 +10,7 @@ use rules::{Job, Seen};
 use tally::{Ratio, Tally, counted_of, guarantee_ratio};
 use workload::draws::plus;
 
-#[derive(Drop)]
+#[derive(Clone, Copy)]
 pub struct Both {
     pub register: Register,
     pub book: Book,
@@ -159,7 +159,7 @@ pub fn look(both: Both, machine: u64, tick: u64) -> Both
 }
 
 // The ratio in parts of 10,000, and 18 or 0 beside it.
-#[derive(Drop)]
+#[derive(Clone, Copy)]
 pub struct Parts {
     pub number: u64,
     pub parts: u64,

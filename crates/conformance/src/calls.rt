@@ -104,7 +104,7 @@ fn tick_of_job(book: Book, shape: Shape, seed: u64) -> u64 {
 }
 
 // A job's first start and last finish.
-#[derive(Drop)]
+#[derive(Clone, Copy)]
 struct Span {
     first: u64,
     last: u64,
@@ -138,7 +138,7 @@ fn with_row(span: Span, row: RefRow, job: u64) -> Span {
 }
 
 // A machine and a tick to look at.
-#[derive(Drop)]
+#[derive(Clone, Copy)]
 struct View {
     machine: u64,
     tick: u64,

@@ -1,7 +1,7 @@
 // What is counted over all lists.
 use workload::draws::plus;
 
-#[derive(Drop)]
+#[derive(Clone, Copy)]
 pub struct Counts {
     pub calls: u64,
     // By answer number. Looks that are not refused are counted beside.

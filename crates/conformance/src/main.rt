@@ -1,4 +1,6 @@
 // Runs the register and a second scheduler, made independently, side by side on made-up lists of calls, and counts their differences.
+#![tactic(auto)]
+
 mod both;
 mod calls;
 mod compare;

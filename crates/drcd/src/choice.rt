@@ -12,7 +12,7 @@ use rules::MESSAGES;
 use texts::job::FIGURES;
 
 // The trial kept, if there is one, and its machine.
-#[derive(Drop)]
+#[derive(Clone, Copy)]
 pub struct Kept {
     pub found: bool,
     pub machine: u64,

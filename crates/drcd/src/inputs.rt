@@ -12,7 +12,7 @@ const INPUT: usize = 4;
 pub const INPUTS: usize = MESSAGES * INPUT;
 
 // A message into the task: its sender, the machine that the sender is placed on and the sender's finish there, and its volume.
-#[derive(Drop)]
+#[derive(Clone, Copy)]
 pub struct Input {
     pub sender: u64,
     pub source: u64,

@@ -1,5 +1,7 @@
 // The steps of DRCD: which task is next, a trial of a machine for it, and the choice among the trials. Job and table are lent as figures, what is held as the
 // timeline.
+#![tactic(auto)]
+
 pub mod choice;
 pub mod inputs;
 pub mod order;
@@ -7,7 +9,7 @@ mod trial;
 
 // The turn of one task, by its index: its release, how many rows are held and how many spans stand on the timeline with those that the job has so far, and how
 // many messages go into the task.
-#[derive(Drop)]
+#[derive(Clone, Copy)]
 pub struct TaskTurn {
     pub t: usize,
     pub release: u64,
@@ -17,7 +19,7 @@ pub struct TaskTurn {
 }
 
 // A trial of a machine: its cost, the task's start and finish, and for each message into the task where its row starts, if it takes one.
-#[derive(Drop)]
+#[derive(Clone, Copy)]
 pub struct Attempt {
     pub cost: u64,
     pub start: u64,

@@ -13,7 +13,7 @@ use timeline::insertion::insert_span;
 use timeline::search::least_free;
 
 // A message on the link from one machine to another, sent when its sender has finished.
-#[derive(Drop)]
+#[derive(Clone, Copy)]
 pub struct Crossing {
     pub source: u64,
     pub target: u64,
@@ -22,7 +22,7 @@ pub struct Crossing {
 }
 
 // Where its row starts and finishes, and what that costs.
-#[derive(Drop)]
+#[derive(Clone, Copy)]
 pub struct Sent {
     pub start: u64,
     pub finish: u64,
@@ -30,7 +30,7 @@ pub struct Sent {
 }
 
 // The last arrival of a trial's messages, their cost, and their starts.
-#[derive(Drop)]
+#[derive(Clone, Copy)]
 pub struct Arrivals {
     pub arrived: u64,
     pub cost: u64,

@@ -1,4 +1,6 @@
 // The register for programs in other languages. A slice passes as a pointer and a length, an array and a number that is lent as a pointer.
+#![tactic(auto)]
+
 ghost use Rattle.texts.specs.Reader.{default_machines};
 ghost use Rattle.texts.specs.Writer.{WritesFigures};
 ghost use Rattle.script.specs.Contract.{Runs};

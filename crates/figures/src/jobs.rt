@@ -84,7 +84,7 @@ pub fn volume_of(row: &[u64; FIGURES], at: usize, i: usize) -> u64
 }
 
 // Where the figures of a row stand: how many machines, tasks and messages it has, and the place of the count of messages.
-#[derive(Drop)]
+#[derive(Clone, Copy)]
 pub struct Layout {
     pub machines: usize,
     pub tasks: usize,

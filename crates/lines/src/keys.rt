@@ -8,7 +8,7 @@ ghost use Rattle.lines.specs.Parts.{key_field};
 use crate::figures::{put_bytes, put_figure};
 use crate::line::begins_with;
 
-#[derive(Drop)]
+#[derive(Clone, Copy)]
 pub enum Key {
     Job,
     Sched,

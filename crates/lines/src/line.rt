@@ -8,14 +8,14 @@ ghost use Rattle.lines.specs.Parts.{most_scanned, ScanIs, NumberIs, AskLine};
 use crate::keys::{Key, key_at};
 
 // What reading answers: a line's figure, or how many figures a form has, and the place after it; or the number of a refusal and its line's place.
-#[derive(Drop)]
+#[derive(Clone, Copy)]
 pub enum Reading {
     Read(u64, usize),
     Refused(u64, usize),
 }
 
 // A line that is due: its key, the most digits, least and most of its figure, a figure excepted (0 for none), and the number that refuses.
-#[derive(Drop)]
+#[derive(Clone, Copy)]
 pub struct DueLine {
     pub key: Key,
     pub digits: usize,
@@ -62,7 +62,7 @@ pub fn reading_number(reading: Reading) -> u64
 }
 
 // Digits: how many, and what they say.
-#[derive(Drop)]
+#[derive(Clone, Copy)]
 pub struct Digits {
     pub count: usize,
     pub value: u64,

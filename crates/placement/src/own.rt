@@ -12,7 +12,7 @@ const ENTRY: usize = 5;
 pub const OWNED: usize = OWN * ENTRY;
 
 // The index that a row's span went to on the timeline, its begin and end there, the label of its holder, and its cost.
-#[derive(Drop)]
+#[derive(Clone, Copy)]
 pub struct Entry {
     pub at: u64,
     pub begin: u64,

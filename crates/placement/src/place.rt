@@ -14,7 +14,7 @@ use rules::TASKS;
 use texts::job::FIGURES;
 
 // How many rows a job has and their cost; or the task that has no good trial at its turn, and the rows before it.
-#[derive(Drop)]
+#[derive(Clone, Copy)]
 pub struct Placement {
     pub late: u64,
     pub count: usize,

@@ -4,6 +4,8 @@
 //
 // It is proved safe and ending, for every book and every job; what it answers is not specified. A sum or a product that would not fit stays at
 // the largest number (figures.rt), and an index that is out of range reads nothing: neither happens with a book that comes from `fresh`.
+#![tactic(auto)]
+
 mod checks;
 mod figures;
 mod placing;
@@ -18,14 +20,14 @@ use rows::{of_job, seen, without, without_finished};
 // The last tick that the clock can be moved to.
 pub const HORIZON: u64 = 1000000000;
 
-#[derive(Drop)]
+#[derive(Clone, Copy)]
 pub struct RefTask {
     pub deadline: u64,
     pub dispatch: u64,
     pub runs: [u64; 4],
 }
 
-#[derive(Drop)]
+#[derive(Clone, Copy)]
 pub struct RefMessage {
     pub sender: u64,
     pub receiver: u64,
@@ -33,7 +35,7 @@ pub struct RefMessage {
 }
 
 // Entries past the two counts are no part of the job.
-#[derive(Drop)]
+#[derive(Clone, Copy)]
 pub struct RefJob {
     pub number: u64,
     pub scheduling: u64,
@@ -45,7 +47,7 @@ pub struct RefJob {
 
 // A booking. On a machine: machine and task, with target and sender 0. On a link: from machine to target, for the message from task sender
 // to task task.
-#[derive(Drop)]
+#[derive(Clone, Copy)]
 pub struct RefRow {
     pub link: bool,
     pub machine: u64,
@@ -59,7 +61,7 @@ pub struct RefRow {
 }
 
 // The register with its tables: a rate for each machine, a time for each unit of volume and a rate for each link, at (from - 1) * 4 + to - 1.
-#[derive(Drop)]
+#[derive(Clone, Copy)]
 pub struct Book {
     pub clock: u64,
     pub count: usize,
@@ -70,7 +72,7 @@ pub struct Book {
     pub linkrates: [u64; 16],
 }
 
-#[derive(Drop)]
+#[derive(Clone, Copy)]
 pub struct RefAnswer {
     pub number: u64,
     pub task: u64,
@@ -78,20 +80,20 @@ pub struct RefAnswer {
     pub rows: u64,
 }
 
-#[derive(Drop)]
+#[derive(Clone, Copy)]
 pub struct RefReply {
     pub answer: RefAnswer,
     pub book: Book,
 }
 
-#[derive(Drop)]
+#[derive(Clone, Copy)]
 pub struct RefSeen {
     pub number: u64,
     pub booked: bool,
     pub row: RefRow,
 }
 
-#[derive(Drop)]
+#[derive(Clone, Copy)]
 pub struct RefRatio {
     pub number: u64,
     pub parts: u64,

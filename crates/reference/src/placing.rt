@@ -7,7 +7,7 @@ use crate::{Book, RefJob, RefMessage, RefRow, no_row};
 
 // A job on its way: the rows held and, after them, those found so far; for each task its machine, 0 until it is placed, and its finish;
 // the floor of the task placed last; the cost of the rows found; and the task that had no good trial, or 0.
-#[derive(Drop)]
+#[derive(Clone, Copy)]
 pub struct Plan {
     pub count: usize,
     pub found: u64,
@@ -23,7 +23,7 @@ pub struct Plan {
 }
 
 // One task on one machine: whether it is good, and the plan with its rows.
-#[derive(Drop)]
+#[derive(Clone, Copy)]
 struct Trial {
     good: bool,
     machine: u64,
@@ -33,7 +33,7 @@ struct Trial {
 }
 
 // A plan with the messages of a task tried, and the latest of the task's floor and their arrivals.
-#[derive(Drop)]
+#[derive(Clone, Copy)]
 struct Inputs {
     ready: u64,
     plan: Plan,

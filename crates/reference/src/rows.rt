@@ -3,7 +3,7 @@ use crate::figures::{MOST, greater, plus};
 use crate::{Book, RefRow, RefSeen, no_row, unseen};
 
 // A job's rows: how many, the earliest start (MOST with no row) and the last finish. A job is held if it has a row.
-#[derive(Drop)]
+#[derive(Clone, Copy)]
 pub struct Held {
     pub count: u64,
     pub first: u64,

@@ -6,7 +6,7 @@ use crate::figures::{MOST, plus};
 pub const ALL_ROWS: usize = 304;
 
 // What a row takes: a machine, with target 0, or the link from a machine to another.
-#[derive(Drop)]
+#[derive(Clone, Copy)]
 pub struct Resource {
     pub link: bool,
     pub machine: u64,

@@ -1,4 +1,6 @@
 // The program `register`: a script on standard input, answers and a listing on standard output. What fails is said on standard error.
+#![tactic(auto)]
+
 ghost use Rattle.std.specs.Prelude.{◌<◌, length};
 ghost use Rattle.register.specs.Reading.{ReadInto, AskBuffer, ReadAll};
 
@@ -9,7 +11,7 @@ use script::{INPUT, OUTPUT, run};
 const BUFFER: usize = INPUT + 1;
 
 // What one read came to: the place after its bytes, the end of the input, or a failure.
-#[derive(Drop)]
+#[derive(Clone, Copy)]
 enum Got {
     Bytes(usize),
     End,
@@ -17,7 +19,7 @@ enum Got {
 }
 
 // What reading came to: the whole input, more than the largest one, each with its count of bytes, or a read that failed.
-#[derive(Drop)]
+#[derive(Clone, Copy)]
 enum Input {
     Whole(usize),
     Above(usize),

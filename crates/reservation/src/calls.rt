@@ -7,7 +7,7 @@ use crate::{Register, Reply};
 use rules::{Job, Kind};
 
 // A submission's job stands beside the kind, since an enum holds no arrays.
-#[derive(Drop)]
+#[derive(Clone, Copy)]
 pub struct Call {
     pub kind: Kind,
     pub job: Job,

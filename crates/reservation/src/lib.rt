@@ -1,5 +1,7 @@
 // The register: booked rows, a clock and a total, changed by calls alone. A call is made over the timetable, lent as columns (`timetable`, `admission`); then a
 // function here makes the register that is left.
+#![tactic(auto)]
+
 pub mod calls;
 mod removal;
 mod rows;
@@ -20,7 +22,7 @@ use timetable::{NEVER, Status};
 // A register is what it was opened with, its clock, its rows and its total. The soonest end and the columns are kept so that a call need not look through the
 // rows: all spans on one timeline, and for each the number of its job and what is noted of it. Each is a definition over the rows, and what is not used is
 // blank, so that equal registers are equal values.
-#[derive(Drop)]
+#[derive(Clone, Copy)]
 pub struct Register {
     setup: Setup,
     status: Status,
@@ -32,7 +34,7 @@ pub struct Register {
 }
 
 // The answer to a call, and the register that it leaves. A withdrawal and a clock move answer a number alone: the other figures are 0.
-#[derive(Drop)]
+#[derive(Clone, Copy)]
 pub struct Reply {
     pub answer: Answer,
     pub register: Register,

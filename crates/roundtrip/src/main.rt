@@ -1,5 +1,7 @@
 // Reads each job text of standard input, writes the job again and compares every byte: into buffers of no byte, one too few, exactly enough and one more; then
 // the job with figures and counts at their limits and past them.
+#![tactic(auto)]
+
 mod jobs;
 mod writing;
 

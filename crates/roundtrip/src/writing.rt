@@ -9,7 +9,7 @@ use texts::writer::write_job;
 pub const ROOM: usize = 4_096;
 
 // How many calls of the writer were tried, and how many did otherwise than they should.
-#[derive(Drop)]
+#[derive(Clone, Copy)]
 pub struct Count {
     pub tried: u64,
     pub different: u64,

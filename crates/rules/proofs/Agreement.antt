@@ -83,7 +83,8 @@ costs_rows (e ∷ entries) h =
 
 -- of elements with different figures, the one with a given figure is alone
 keep_alone :
-    {A : Type 0} (f : A → ℕ) {l : List A} {x : A} → Pairwise (λ a b. f a ≡ f b → ⊥) l → Memᴰ x l → keep (λ y. eqb (f y) (f x)) l ≡ x ∷ []
+    {A : Type 0} (f : A → ℕ) {x : A} {l : List A} → Pairwise (λ a b. f a ≡ f b → ⊥) l → Memᴰ x l → keep (λ y. eqb (f y) (f x)) l ≡ x ∷ []
+keep_alone f end m = elim m [ ]
 keep_alone f {x = x} (more {x = y} {xs = ys} h rest) (Memᴰ.head e) =
     rw (eq-eqb (f y) (f x) (ap f (sym e)))
     (ap₂ ◌∷◌ (sym e) (keep_none _ ys (λ z m. ne_eqb (f z) (f x) (λ q. h z m (ap f (sym e) ∙ sym q)))))

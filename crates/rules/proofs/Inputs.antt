@@ -21,7 +21,7 @@ use Rattle.rules.specs.Placing.{try}
 use Rattle.rules.specs.Laws.{NotBefore, TaskStarts, MessageStarts}
 use Rattle.rules.specs.Placing.{Ground}
 use Rattle.rules.proofs.Sequences.{by_test, clash, and_true, and_both, count_none, mem_keep, keep_mem}
-use Rattle.rules.proofs.Pairs.{Pairwise, more}
+use Rattle.rules.proofs.Pairs.{Pairwise, end, more}
 use Rattle.rules.proofs.LeastTick.{least_is_least}
 use Rattle.rules.proofs.Resources.{least_on}
 
@@ -164,6 +164,7 @@ module _ (s : Setup) (j : Job) (new : List Row) (m : ℕ) where
 -- of two messages of one list with the same sender and receiver there is only one
 pub same_pair_same :
     {msgs : List Message} → Pairwise Differ msgs → (x y : Message) → Memᴰ x msgs → Memᴰ y msgs → SamePair x y → x ≡ y
+same_pair_same end x y n q same = elim n [ ]
 same_pair_same (more {x = z} {xs = zs} f p) x y n q same =
     ⊎_elim
     (λ e. ⊎_elim (λ e'. e ∙ sym e') (λ d. absurd (f y d (subst (λ v. SamePair v y) e same))) (Memᴰ.cases_cons q))
@@ -176,7 +177,7 @@ same_pair_same (more {x = z} {xs = zs} f p) x y n q same =
 
 -- The arrivals.
 
-pub arrives_by : (rows : List Row) (b from : ℕ) {msgs : List Message} {msg : Message} → Memᴰ msg msgs → arrival rows msg b ≤ all_arrived rows b from msgs
+pub arrives_by : (rows : List Row) (b from : ℕ) {msg : Message} {msgs : List Message} → Memᴰ msg msgs → arrival rows msg b ≤ all_arrived rows b from msgs
 unfolding all_arrived
 arrives_by rows b from {msg = msg} (Memᴰ.head {x = y} {xs = ys} e) =
     let q : arrival rows msg b ≡ arrival rows y b = ap (λ v. arrival rows v b) e in omega arith

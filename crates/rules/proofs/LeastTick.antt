@@ -66,7 +66,7 @@ unfolding latest
 latest_from from [] = omega arith
 latest_from from (s ∷ spans) = let below = latest_from from spans in omega arith
 
-latest_finish : (from : ℕ) {spans : List Span} {s : Span} → Memᴰ s spans → s.finish ≤ latest from spans
+latest_finish : (from : ℕ) {s : Span} {spans : List Span} → Memᴰ s spans → s.finish ≤ latest from spans
 unfolding latest
 latest_finish from (Memᴰ.head e) = let same = ap (λ s. s.finish) e in omega arith
 latest_finish from (Memᴰ.tail m) = let below = latest_finish from m in omega arith
@@ -110,7 +110,7 @@ module _ (from len : ℕ) (spans : List Span) where
   earliest_fits last h [] = h
   earliest_fits last h (t ∷ ticks) = earlier_fits t (earliest from len spans last ticks) (earliest_fits last h ticks)
 
-  earliest_first : (last : ℕ) {ticks : List ℕ} {x : ℕ} → Memᴰ x ticks → Fits x → earliest from len spans last ticks ≤ x
+  earliest_first : (last : ℕ) {x : ℕ} {ticks : List ℕ} → Memᴰ x ticks → Fits x → earliest from len spans last ticks ≤ x
   unfolding earliest
   earliest_first last (Memᴰ.head {x = t} {xs = ticks} e) h = rw e (earlier_this t (earliest from len spans last ticks) (rw e at h))
   earliest_first last (Memᴰ.tail {x = t} {xs = ticks} m) h =

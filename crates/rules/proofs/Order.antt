@@ -156,8 +156,8 @@ module _ {A : Type 0} (p q : A → Bool) where
       go true false h = omega arith
       go false b h = h
 
-  pub count_fewer : {l : List A} {x : A} → Memᴰ x l → p x ≡ true → q x ≡ true → count_of (λ y. p y && not (q y)) l < count_of p l
-  count_fewer {l} {x} m h k =
+  pub count_fewer : {x : A} {l : List A} → Memᴰ x l → p x ≡ true → q x ≡ true → count_of (λ y. p y && not (q y)) l < count_of p l
+  count_fewer {x} {l} m h k =
       let split = count_split l in
       let some = count_some (λ y. p y && q y) l (any_mem (λ y. p y && q y) m (and_both (p x) (q x) h k)) in
       omega arith

@@ -54,7 +54,7 @@ and_cases false b e = inl refl
 module _ {A : Type 0} where
   -- Some and all of a list.
 
-  pub any_mem : (p : A → Bool) {l : List A} {x : A} → Memᴰ x l → p x ≡ true → any_of p l ≡ true
+  pub any_mem : (p : A → Bool) {x : A} {l : List A} → Memᴰ x l → p x ≡ true → any_of p l ≡ true
   any_mem p (Memᴰ.head {x = y} {xs = ys} e) h = or_left (p y) (any_of p ys) (ap p (sym e) ∙ h)
   any_mem p (Memᴰ.tail {x = y} {xs = ys} m) h = or_right (p y) (any_of p ys) (any_mem p m h)
 
@@ -68,14 +68,15 @@ module _ {A : Type 0} where
       step below (inl h) = (x, Memᴰ.head refl, h)
       step below (inr h) = ((below h).0, Memᴰ.tail (below h).1, (below h).2)
 
-  pub any_none : (p : A → Bool) {l : List A} {x : A} → any_of p l ≡ false → Memᴰ x l → p x ≡ false
+  pub any_none : (p : A → Bool) {x : A} {l : List A} → any_of p l ≡ false → Memᴰ x l → p x ≡ false
   any_none p {x = x} e m = by_test (p x) (λ h. clash (any_mem p m h) e) (λ h. h)
 
   pub none_any : (p : A → Bool) (l : List A) → ((x : A) → Memᴰ x l → p x ≡ false) → any_of p l ≡ false
   none_any p [] h = refl
   none_any p (x ∷ xs) h = rw (h x (Memᴰ.head refl)) (none_any p xs (λ y m. h y (Memᴰ.tail m)))
 
-  pub all_mem : (p : A → Bool) {l : List A} {x : A} → all_of p l ≡ true → Memᴰ x l → p x ≡ true
+  pub all_mem : (p : A → Bool) {x : A} {l : List A} → all_of p l ≡ true → Memᴰ x l → p x ≡ true
+  all_mem p {l = []} e m = elim m [ ]
   all_mem p {l = y ∷ ys} e (Memᴰ.head q) = ap p q ∙ (and_true (p y) (all_of p ys) e).0
   all_mem p {l = y ∷ ys} e (Memᴰ.tail m) = all_mem p (and_true (p y) (all_of p ys) e).1 m
 
@@ -89,7 +90,7 @@ module _ {A : Type 0} where
 
   -- Those that pass a test.
 
-  pub keep_mem : (p : A → Bool) {l : List A} {x : A} → Memᴰ x l → p x ≡ true → Memᴰ x (keep p l)
+  pub keep_mem : (p : A → Bool) {x : A} {l : List A} → Memᴰ x l → p x ≡ true → Memᴰ x (keep p l)
   keep_mem p {x = x} (Memᴰ.head {x = y} {xs = ys} e) h = rw (ap p (sym e) ∙ h) (Memᴰ.head e)
   keep_mem p {x = x} (Memᴰ.tail {x = y} {xs = ys} m) h = go (p y) (keep_mem p m h)
     where
@@ -174,7 +175,7 @@ module _ {A : Type 0} where
       (λ h. let below : any_of p xs ≡ true = rw h at e in rw h (Memᴰ.tail (first_mem d p xs below)))
 
   -- the only one that passes a test is the first that does
-  pub once_first : (d : A) (p : A → Bool) {l : List A} {x : A} → count_of p l ≡ 1 → Memᴰ x l → p x ≡ true → first_or d p l ≡ x
+  pub once_first : (d : A) (p : A → Bool) {x : A} {l : List A} → count_of p l ≡ 1 → Memᴰ x l → p x ≡ true → first_or d p l ≡ x
   once_first d p {x = x} c (Memᴰ.head e) h = rw (ap p (sym e) ∙ h) (sym e)
   once_first d p {x = x} c (Memᴰ.tail {x = y} {xs = ys} m) h =
       by_test
@@ -218,7 +219,7 @@ pub map_same : {A B : Type 0} (f g : A → B) (l : List A) → ((x : A) → Mem�
 map_same f g [] h = refl
 map_same f g (x ∷ l) h = rw (h x (Memᴰ.head refl)) (ap (λ rest. g x ∷ rest) (map_same f g l (λ y m. h y (Memᴰ.tail m))))
 
-pub mem_map : {A B : Type 0} (f : A → B) {l : List A} {x : A} → Memᴰ x l → Memᴰ (f x) (map f l)
+pub mem_map : {A B : Type 0} (f : A → B) {x : A} {l : List A} → Memᴰ x l → Memᴰ (f x) (map f l)
 mem_map f (Memᴰ.head e) = Memᴰ.head (ap f e)
 mem_map f (Memᴰ.tail m) = Memᴰ.tail (mem_map f m)
 

@@ -1,4 +1,6 @@
 // The data types and limits of the cluster register. The rules themselves are the definitions of specs/, a file for each section of document 01.
+#![tactic(auto)]
+
 pub mod codes;
 pub mod rows;
 pub mod tables;
@@ -25,7 +27,7 @@ pub const LAST_JOB: u64 = 65_535;
 pub const HORIZON: u64 = 1_000_000_000;
 
 // A task of a job. The deadline is a tick of the clock; a run time of 0 says that the machine cannot run it.
-#[derive(Drop)]
+#[derive(Clone, Copy)]
 pub struct Task {
     pub deadline: u64,
     pub dispatch: u64,
@@ -33,7 +35,7 @@ pub struct Task {
 }
 
 // A message from one task of a job to another.
-#[derive(Drop)]
+#[derive(Clone, Copy)]
 pub struct Message {
     pub sender: u64,
     pub receiver: u64,
@@ -41,7 +43,7 @@ pub struct Message {
 }
 
 // A job as submitted. Entries past the counts are no part of it.
-#[derive(Drop)]
+#[derive(Clone, Copy)]
 pub struct Job {
     pub number: u64,
     pub scheduling: u64,
@@ -52,7 +54,7 @@ pub struct Job {
 }
 
 // What holds a row: a task on a machine, or a message on the link from one machine to another.
-#[derive(Drop)]
+#[derive(Clone, Copy)]
 pub enum Holder {
     TaskOn {
         machine: u8,
@@ -67,7 +69,7 @@ pub enum Holder {
 }
 
 // A row: one booking. Its span holds its start and not its finish. The fields are as narrow as their ranges, since a register goes by value.
-#[derive(Drop)]
+#[derive(Clone, Copy)]
 pub struct Row {
     pub holder: Holder,
     pub job: u16,
@@ -77,7 +79,7 @@ pub struct Row {
 }
 
 // The kind of a call, with its number or tick. A submission's job stands beside it.
-#[derive(Drop)]
+#[derive(Clone, Copy)]
 pub enum Kind {
     Submit,
     Withdraw(u64),
@@ -85,7 +87,7 @@ pub enum Kind {
 }
 
 // The answer to a call: number 0 or that of a refusal, the task that a refusal names, and the cost and count of new rows.
-#[derive(Drop)]
+#[derive(Clone, Copy)]
 pub struct Answer {
     pub number: u64,
     pub task: u64,
@@ -94,7 +96,7 @@ pub struct Answer {
 }
 
 // What a look finds on a machine at a tick.
-#[derive(Drop)]
+#[derive(Clone, Copy)]
 pub enum Seen {
     Idle,
     Booked(Row),
@@ -102,7 +104,7 @@ pub enum Seen {
 }
 
 // The machines: failure rates, and for each link its time per unit of volume and its failure rate, a row for each sending machine.
-#[derive(Drop)]
+#[derive(Clone, Copy)]
 pub struct Table {
     pub machines: u64,
     pub rates: [u64; MACHINES],
@@ -111,7 +113,7 @@ pub struct Table {
 }
 
 // What a register is opened with.
-#[derive(Drop)]
+#[derive(Clone, Copy)]
 pub struct Setup {
     pub table: Table,
 }

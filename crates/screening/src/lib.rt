@@ -1,4 +1,6 @@
 // Screening: the tests of a submission that read no row, over the job's lent figures: refusals 1 to 4, and 6.
+#![tactic(auto)]
+
 mod messages;
 mod ranges;
 

@@ -10,7 +10,7 @@ use rules::{DEFAULT_MACHINES, Kind};
 use texts::job::FIGURES;
 
 // A call and the place after it, or the number of a reading refusal. A submission's job is in the lent row.
-#[derive(Drop)]
+#[derive(Clone, Copy)]
 pub enum ActRead {
     Called(usize, Kind),
     Unread(u64),

@@ -11,7 +11,7 @@ use timetable::removal::{advance, withdraw};
 use timetable::{Outcome, Status};
 
 // A call, and the status that it is made in.
-#[derive(Drop)]
+#[derive(Clone, Copy)]
 pub struct Asked {
     pub kind: Kind,
     pub status: Status,

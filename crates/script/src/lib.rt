@@ -1,4 +1,6 @@
 // The program `register` as a function on bytes: a script goes in, answers and a listing come out.
+#![tactic(auto)]
+
 mod acts;
 mod calls;
 mod listing;

@@ -1,4 +1,6 @@
 // The tally of submissions: the caller lends it, and a submission adds to it there.
+#![tactic(auto)]
+
 ghost use Rattle.std.specs.Prelude.{◌≡◌};
 ghost use Rattle.reservation.specs.Registers.{Valid};
 ghost use Rattle.tally.specs.Tallies.{counted, RatioIs, SubmitsCounted};
@@ -7,14 +9,14 @@ use reservation::{Register, Reply};
 use rules::Job;
 
 // How many submissions arrived, and how many of them were accepted.
-#[derive(Drop)]
+#[derive(Clone, Copy)]
 pub struct Tally {
     pub arrived: u32,
     pub admitted: u32,
 }
 
 // A ratio in parts of 10,000. It is undefined if nothing arrived, or less than was admitted.
-#[derive(Drop)]
+#[derive(Clone, Copy)]
 pub enum Ratio {
     Of(u64),
     Undefined,
@@ -76,7 +78,7 @@ pub fn submit_counted(t: &mut Tally, register: Register, job: Job) -> Reply
 }
 
 // A tally after a submission, and the reply.
-#[derive(Drop)]
+#[derive(Clone, Copy)]
 pub struct Counted {
     pub tally: Tally,
     pub reply: Reply,

@@ -11,7 +11,7 @@ use lines::figures::width;
 use lines::keys::{Key, key_length, put_line};
 use lines::line::{DueLine, Reading, is_unfit, read_line};
 
-#[derive(Drop)]
+#[derive(Clone, Copy)]
 pub enum Stage {
     Job(JobLine),
     Over,
@@ -141,7 +141,7 @@ fn put_form(row: &[u64], count: usize, first: Stage, machines: u64, output: &mut
 }
 
 // What a writer of texts answers: 0 and the length of the text, or the number of a refusal and 0.
-#[derive(Drop)]
+#[derive(Clone, Copy)]
 pub struct WriterAnswer {
     pub number: u64,
     pub length: usize,

@@ -17,7 +17,7 @@ use rules::{Job, MACHINES, MESSAGES, Message, TASKS, Task};
 pub const FIGURES: usize = 4 + TASKS * (2 + MACHINES) + MESSAGES * 3;
 
 // How far reading came, and the job, or the blank job where a line was refused.
-#[derive(Drop)]
+#[derive(Clone, Copy)]
 pub struct JobRead {
     pub reading: Reading,
     pub job: Job,

@@ -10,7 +10,7 @@ use lines::line::{DueLine, any_figure, ranged};
 use rules::{MESSAGES, TASKS};
 
 // A count says how many tasks, run times or messages come after this one.
-#[derive(Drop)]
+#[derive(Clone, Copy)]
 pub enum JobLine {
     Number,
     Scheduling,

@@ -4,7 +4,7 @@ ghost use Rattle.timeline.specs.Beside.{AskBeside, BesideIs};
 use crate::search::least_free;
 
 // What is sought: so many ticks of the resource with this number, not before a tick.
-#[derive(Drop)]
+#[derive(Clone, Copy)]
 pub struct Sought {
     pub code: u64,
     pub from: u64,

@@ -1,4 +1,6 @@
 // The timeline: every span that is held, of all machines and links on one ascending number line, and what is noted of each.
+#![tactic(auto)]
+
 pub mod beside;
 pub mod insertion;
 pub mod notes;

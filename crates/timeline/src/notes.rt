@@ -9,7 +9,7 @@ pub const NOTE: usize = 3;
 pub const NOTES: usize = SPANS * NOTE;
 
 // The label of what holds the span, the cost of its row, and the last finish of its job.
-#[derive(Drop)]
+#[derive(Clone, Copy)]
 pub struct Note {
     pub label: u64,
     pub cost: u64,

@@ -6,7 +6,7 @@ use crate::notes::{Note, note_at, put_note};
 use rules::ROWS;
 
 // How many rows are left, and what those that left have cost.
-#[derive(Drop)]
+#[derive(Clone, Copy)]
 pub struct Left {
     pub count: usize,
     pub cost: u64,

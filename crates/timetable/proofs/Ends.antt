@@ -27,7 +27,7 @@ use Rattle.timetable.proofs.Lines.{least_line}
 -- The greatest of figures: at least each of them, and none below it is.
 
 module _ {A : Type 0} (figure : A → ℕ) where
-  most_high : {l : List A} {x : A} → Memᴰ x l → figure x ≤ most_of (map figure l)
+  most_high : {x : A} {l : List A} → Memᴰ x l → figure x ≤ most_of (map figure l)
   unfolding most_of
   most_high (Memᴰ.head e) = let same = ap figure e in omega arith
   most_high (Memᴰ.tail m) = let below = most_high m in omega arith

@@ -17,7 +17,7 @@ module _ {A : Type 0} (none : ℕ) (figure : A → ℕ) where
   least_none [] = omega arith
   least_none (x ∷ l) = omega (arith, least_none l)
 
-  pub least_low : {l : List A} {x : A} → Memᴰ x l → least_of none (map figure l) ≤ figure x
+  pub least_low : {x : A} {l : List A} → Memᴰ x l → least_of none (map figure l) ≤ figure x
   unfolding least_of
   least_low (Memᴰ.head e) = let same = ap figure e in omega arith
   least_low (Memᴰ.tail m) = let below = least_low m in omega arith

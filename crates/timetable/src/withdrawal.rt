@@ -6,7 +6,7 @@ use crate::held::{has_begun, place_of};
 use rules::LAST_JOB;
 
 // What a withdrawal answers, and where the first row of the job stands: the search for it need not be made again.
-#[derive(Drop)]
+#[derive(Clone, Copy)]
 pub struct Verdict {
     pub number: u64,
     pub from: usize,

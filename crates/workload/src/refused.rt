@@ -5,7 +5,7 @@ use builder::{add_message, add_task, alone, message, numbered, task};
 use rules::{Job, Message, Task};
 
 // By what they are made for.
-#[derive(Drop)]
+#[derive(Clone, Copy)]
 pub enum Batch {
     // 1 and 2: 11 jobs.
     Counts,

@@ -1,7 +1,7 @@
 // What the jobs and the calls of a list are drawn from.
 
 // Which tasks of a job send to which.
-#[derive(Drop)]
+#[derive(Clone, Copy)]
 pub enum Graph {
     Independent,
     Chain,
@@ -13,7 +13,7 @@ pub enum Graph {
     Any,
 }
 
-#[derive(Drop)]
+#[derive(Clone, Copy)]
 pub struct Shape {
     pub graph: Graph,
     // The most tasks of a job.

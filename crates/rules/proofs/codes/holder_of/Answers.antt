@@ -1,13 +1,9 @@
 -- `rules::codes::holder_of` meets its contract: the digits of a label are the figures of its holder.
-use mathlib.Core.Path.{◌≡◌, refl}
-use Prim.Native.Nat.{ℕ, ◌/◌, ◌%◌}
-use native.Mathlib.Omega.{arith}
-use borrow.Author.Rules.{rules}
+use Rattle.std.proofs.Common.{◌≡◌, refl, ℕ, ◌/◌, ◌%◌, arith}
 use Rattle.rules.specs.declared.Holder.{Holder}
 use Rattle.rules.specs.declared.Holder.TheVariants.{TaskOn, MessageOn}
 use Rattle.rules.specs.Codes.{label_digit, holder_label, Narrow, narrow_task, narrow_message}
-use Rattle.rules.proofs.codes.holder_of.Statement.{statement}
-use Rattle.rules.proofs.codes.holder_of.Tie as tie
+use Rattle.rules.proofs.codes.holder_of.Goals as goal
 
 -- no sending machine: a task
 task_label :
@@ -38,15 +34,8 @@ message_label label some (MessageOn a b x y) (narrow_message digits one) is =
     let receiver : label % label_digit ≡ y = omega (arith, digits) in
     rw (source, target, sender, receiver) refl
 
-pub holder_of_spec : {M : Type 1} → statement M
-holder_of_spec =
-    tie.close
-    (tie.spec
-    (λ c. omega arith)
-    (λ c. omega arith)
-    (λ c. task_label _ c.if1.true)
-    (λ c. search rules)
-    (λ c. omega arith)
-    (λ c. omega arith)
-    (λ c. omega arith)
-    (λ c. message_label _ c.if1.false))
+pub returns-then-source-eq0 : goal.returns-then-source-eq0
+returns-then-source-eq0 c = task_label _ c.if-source-eq0.true
+
+pub returns : goal.returns
+returns c = message_label _ c.if-source-eq0.false

@@ -27,8 +27,8 @@ loop-i-preserved c =
     let more = c.loop-i-test.true in
     let is = c.note_at-note.ensures in
     elim c.if-leaves-i.branch [
-        then-leaves-i w ↦ packing_is w.2 w.3 w.4 w.5 w.6 w.7 (packing_goes asked c.loop-i.invariant more is w.if-leaves-i.true)
-        | else-leaves-i w ↦ packing_is w.8 w.9 w.10 w.11 w.12 w.13 (packing_stays asked c.loop-i.invariant more is w.if-leaves-i.false w.5.ensures)
+        then-leaves-i w ↦ packing_is w.begins-is w.ends-is w.jobs-is w.notes-is w.kept-is w.cost-is (packing_goes asked c.loop-i.invariant more is w.if-leaves-i.true)
+        | else-leaves-i w ↦ packing_is w.begins-is w.ends-is w.jobs-is w.notes-is w.kept-is w.cost-is (packing_stays asked c.loop-i.invariant more is w.if-leaves-i.false w.put_note.ensures)
         ]
 
 pub loop-i-init : goal.loop-i-init

@@ -28,8 +28,8 @@ loop-i-preserved c =
     let more = c.loop-i-test.true in
     let sends = c.sender_of.ensures in
     elim c.if-machines-sender-eq0.branch [
-        then-machines-sender-eq0 w ↦ rw w.2 (waited_unplaced inv more sends w.if-machines-sender-eq0.true w.1.ensures)
-        | else-machines-sender-eq0 w ↦ rw w.1 (waited_placed inv more sends w.if-machines-sender-eq0.false)
+        then-machines-sender-eq0 w ↦ rw w.waits-is (waited_unplaced inv more sends w.if-machines-sender-eq0.true w.receiver_of.ensures)
+        | else-machines-sender-eq0 w ↦ rw w.waits-is (waited_placed inv more sends w.if-machines-sender-eq0.false)
         ]
 
 pub loop-i-init : goal.loop-i-init

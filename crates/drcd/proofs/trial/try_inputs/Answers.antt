@@ -23,7 +23,7 @@ stays : (c : Joined-input-machine) → c.if-input-machine.t-19 ≡ true →
     (c.input_at-input.result.source ≡ c.args.machine) ⊎ (c.input_at-input.result.volume ≡ 0)
 stays c e = elim c.if-input-machine.branch [
         then-input-machine w ↦ inl w.if-input-machine.true
-        | else-input-machine w ↦ inr (eqb-true _ _ (sym w.2 ∙ e))
+        | else-input-machine w ↦ inr (eqb-true _ _ (sym w.t-19-is ∙ e))
         ]
 
 crosses : (c : Joined-input-machine) → c.if-input-machine.t-19 ≡ false →
@@ -74,7 +74,7 @@ loop-i-preserved c =
     let now = c.loop-i.invariant in
     let more = c.loop-i-test.true in
     elim c.if-input-eq0.branch [
-        then-input-eq0 w ↦ rw (w.2, w.3, w.4, w.5, w.6, w.7) (tried_off ask now more c.input_at-input.ensures (stays (goal.at.loop-i-preserved c).Joined-input-machine w.if-input-eq0.true) w.1.ensures)
+        then-input-eq0 w ↦ rw (w.tried_begins-is, w.tried_ends-is, w.starts-is, w.count-is, w.arrived-is, w.cost-is) (tried_off ask now more c.input_at-input.ensures (stays (goal.at.loop-i-preserved c).Joined-input-machine w.if-input-eq0.true) w.later-arrived.ensures)
         | else-input-eq0 w ↦ let across = crosses (goal.at.loop-i-preserved c).Joined-input-machine w.if-input-eq0.false in
     rw
     (w.8, w.9, w.10, w.11, w.12, w.13)

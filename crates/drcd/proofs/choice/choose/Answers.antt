@@ -60,7 +60,7 @@ loop-m-preserved-then-not-comes_first c =
     (deadline_read (goal.at.loop-m-preserved-then-not-comes_first c).After-run_of-run)
     c.if-deadline-tried.false
     c.comes_first.ensures
-    (not-true _ c.if-not-comes_first.true-raw)
+    c.if-not-comes_first.true
 
 pub loop-m-preserved : goal.loop-m-preserved
 loop-m-preserved c =
@@ -74,7 +74,7 @@ loop-m-preserved c =
     (deadline_read (goal.at.loop-m-preserved c).After-run_of-run)
     c.if-deadline-tried.false
     c.comes_first.ensures
-    (not-false _ c.if-not-comes_first.false-raw)
+    c.if-not-comes_first.false
 
 machines_few : (c : In-loop-m) → c.loop-m.m < most_machines
 machines_few c = let ask = c.requires in index_below c.loop-m-test.true (its_figures ask).machines_at_most
@@ -86,7 +86,7 @@ pub nothing-kept-requires : goal.nothing-kept-requires
 nothing-kept-requires c = tt
 
 pub loop-m-init : goal.loop-m-init
-loop-m-init c = chosen_none c.requires _ c.nothing-kept.ensures.0 c.nothing-kept.ensures.1
+loop-m-init c = chosen_none c.requires _ c.nothing-kept.ensures.found_value c.nothing-kept.ensures.attempt_bounds
 
 pub run_of-run-requires : goal.run_of-run-requires
 run_of-run-requires c = its_run c.requires c.loop-m-test.true

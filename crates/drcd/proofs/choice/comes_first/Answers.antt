@@ -8,16 +8,16 @@ use Rattle.drcd.proofs.choice.comes_first.Goals as goal
 pub returns-then-cost-best_cost : goal.returns-then-cost-best_cost
 returns-then-cost-best_cost c =
     let a = c.args in
-    rw (not-false a.found c.if-not-found.false-raw, lt-ltb a.cost a.best-cost c.if-cost-best_cost.true) refl
+    rw (c.if-not-found.false, lt-ltb a.cost a.best_cost c.if-cost-best_cost.true) refl
 
 pub returns-then-best_cost-cost : goal.returns-then-best_cost-cost
 returns-then-best_cost-cost c =
     let a = c.args in
     let less = c.if-best_cost-cost.true in
     rw (
-      not-false a.found c.if-not-found.false-raw,
-      le-ltb a.cost a.best-cost (omega arith),
-      ne_eqb a.cost a.best-cost
+      c.if-not-found.false,
+      le-ltb a.cost a.best_cost (omega arith),
+      ne_eqb a.cost a.best_cost
           (λ e. omega arith),
     ) refl
 
@@ -26,4 +26,4 @@ returns c =
     let a = c.args in
     let most = c.if-best_cost-cost.false in
     let least = c.if-cost-best_cost.false in
-    rw (not-false a.found c.if-not-found.false-raw, le-ltb a.cost a.best-cost least, eq-eqb a.cost a.best-cost (omega arith)) refl
+    rw (c.if-not-found.false, le-ltb a.cost a.best_cost least, eq-eqb a.cost a.best_cost (omega arith)) refl

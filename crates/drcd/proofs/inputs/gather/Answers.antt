@@ -37,8 +37,8 @@ loop-i-preserved c =
     let more = c.loop-i-test.true in
     let receives = c.receiver_of-receiver.ensures in
     elim c.if-receiver-t.branch [
-        then-receiver-t w ↦ rw (w.put_input-arg-1, w.put_input) (gathered_more inv more receives w.if-receiver-t.true w.sender_of-sender.ensures w.way_told-then-receiver-t-1.ensures w.volume_of.ensures)
-        | else-receiver-t w ↦ rw (w.1, w.2) (gathered_other inv more receives w.if-receiver-t.false)
+        then-receiver-t w ↦ rw (w.inputs-is, w.count-is) (gathered_more inv more receives w.if-receiver-t.true w.sender_of-sender.ensures w.volume_of.ensures w.put_input.ensures)
+        | else-receiver-t w ↦ rw (w.inputs-is, w.count-is) (gathered_other inv more receives w.if-receiver-t.false)
         ]
 
 pub loop-i-init : goal.loop-i-init

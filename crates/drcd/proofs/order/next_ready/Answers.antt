@@ -7,7 +7,7 @@ use Rattle.figures.specs.Rows.{AskTaskFigure}
 use Rattle.drcd.proofs.JobFigures.{task_asked}
 use Rattle.drcd.proofs.NextTask.{Best, best_none, best_placed, best_waits, best_kept, best_taken, best_found}
 use Rattle.drcd.proofs.order.next_ready.Goals as goal
-use Rattle.drcd.proofs.order.next_ready.Goals.{In-loop-t, else-best-ne0, then-best-ne0}
+use Rattle.drcd.proofs.order.next_ready.Goals.{In-loop-t, else-best-ne0-via-then-best-ne0+else-deadline-its, else-best-ne0-via-else-best-ne0}
 
 -- The stops that the proof goes back to.
 
@@ -31,7 +31,7 @@ loop-t-preserved-then-deadline-its c =
     c.if-waits-at.false
     c.deadline_of-its.ensures
     c.if-best-ne0.true
-    (leb-true _ _ c.if-deadline-its.true-raw)
+    c.if-deadline-its.true
 
 pub loop-t-preserved : goal.loop-t-preserved
 loop-t-preserved c =
@@ -42,9 +42,9 @@ loop-t-preserved c =
     c.if-machines-at-ne0.false
     c.if-waits-at.false
     c.deadline_of-its.ensures
-    (λ ne. elim c.if-best-ne0.branch [
-        then-best-ne0 w ↦ leb-false _ _ w.1.left
-        | else-best-ne0 w ↦ absurd (ne w.left)
+    (λ ne. elim c.else-best-ne0.branch [
+        else-best-ne0-via-then-best-ne0+else-deadline-its w ↦ w.if-deadline-its.false
+        | else-best-ne0-via-else-best-ne0 w ↦ absurd (ne w.if-best-ne0.false)
         ])
 
 pub waiting-waits-requires : goal.waiting-waits-requires

@@ -30,8 +30,8 @@ crosses : (c : Joined-input-machine) → c.if-input-machine.t-19 ≡ false →
     (c.input_at-input.result.source ≡ c.args.machine → ⊥) × (1 ≤ c.input_at-input.result.volume)
 crosses c e =
     elim c.if-input-machine.branch [
-        then-input-machine w ↦ clash (w.1 ∙ eq-eqb _ _ w.if-input-machine.true) e
-        | else-input-machine w ↦ (w.if-input-machine.false, omega (arith, eqb-false c.input_at-input.result.volume 0 (sym w.2 ∙ e)))
+        then-input-machine w ↦ clash (w.t-19-is ∙ eq-eqb _ _ w.if-input-machine.true) e
+        | else-input-machine w ↦ (w.if-input-machine.false, omega (arith, eqb-false c.input_at-input.result.volume 0 (sym w.t-19-is ∙ e)))
         ]
 
 pub loop-i-init : goal.loop-i-init
@@ -74,11 +74,11 @@ loop-i-preserved c =
     let now = c.loop-i.invariant in
     let more = c.loop-i-test.true in
     elim c.if-input-eq0.branch [
-        then-input-eq0 w ↦ rw (w.tried_begins-is, w.tried_ends-is, w.starts-is, w.count-is, w.arrived-is, w.cost-is) (tried_off ask now more c.input_at-input.ensures (stays (goal.at.loop-i-preserved c).Joined-input-machine w.if-input-eq0.true) w.later-arrived.ensures)
-        | else-input-eq0 w ↦ let across = crosses (goal.at.loop-i-preserved c).Joined-input-machine w.if-input-eq0.false in
+        then-input-eq0 w ↦ rw (w.tried_begins-is, w.tried_ends-is, w.starts-is, w.count-is, w.arrived-is, w.cost-is) (tried_off ask now more c.input_at-input.ensures (stays (goal.at.loop-i-preserved c).Joined-input-machine w.if-input-eq0.true-raw) w.later-arrived.ensures)
+        | else-input-eq0 w ↦ let across = crosses (goal.at.loop-i-preserved c).Joined-input-machine w.if-input-eq0.false-raw in
     rw
-    (w.8, w.9, w.10, w.11, w.12, w.13)
-    (tried_across ask now more c.input_at-input.ensures across.0 across.1 w.3.ensures w.6.ensures)
+    (w.tried_begins-is, w.tried_ends-is, w.starts-is, w.count-is, w.arrived-is, w.cost-is)
+    (tried_across ask now more c.input_at-input.ensures across.0 across.1 w.send-sent.ensures w.later-arrived-else-input-eq0.ensures)
         ]
 
 pub returns : goal.returns

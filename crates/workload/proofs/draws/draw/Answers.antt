@@ -4,4 +4,4 @@ use native.Mathlib.Nat.{mod-le, mod-lt, lt_of_le_of_lt}
 use Rattle.workload.proofs.draws.draw.Goals as goal
 
 pub returns : goal.returns
-returns c = (search rules, λ h. lt_of_le_of_lt (mod-le _ _) (mod-lt _ h))
+returns c = record { within = search rules; below = λ h. lt_of_le_of_lt (mod-le _ _) (mod-lt _ h) }

@@ -11,7 +11,7 @@ use Rattle.placement.proofs.Appending.{goes, goes_on, stays_there, stays_light, 
 use Rattle.placement.proofs.Appending.{task_at_most, inputs_at_most, message_asked, message_push_asked, message_used_few}
 use Rattle.placement.proofs.Appending.{own_lasts, own_asked, own_push_asked, own_used_few}
 use Rattle.placement.proofs.append.append.Goals as goal
-use Rattle.placement.proofs.append.append.Goals.{In-loop-i, Then-input-ne0, else-input-kept, then-input-kept}
+use Rattle.placement.proofs.append.append.Goals.{In-loop-i, Then-input-ne0, then-input-kept+then-input-ne0, else-input-kept, else-input-kept-via-then-input-kept+else-input-ne0, else-input-kept-via-else-input-kept}
 
 -- The stops that the proof goes back to.
 
@@ -65,13 +65,18 @@ loop-i-preserved c =
     let is = c.input_at-input.ensures in
     let input = c.input_at-input.result in
     elim c.if-input-kept.branch [
-        then-input-kept on ↦ rw
-    (on.12, on.13, on.14, on.15, add-one c.loop-i.i)
-    (appending_more ask so_far below is (goes_on input _ on.if-input-kept.true on.2.taken) on.3.ensures on.7.ensures)
-        | else-input-kept off ↦ let stays : goes input c.args.kept.machine ≡ false =
-    ⊎_elim (λ light. stays_light input _ light.0.taken light.2.left) (λ there. stays_there input _ there.left) off.0.came
-    in
-    rw (off.1, off.2, off.3, off.4, add-one c.loop-i.i) (appending_same ask so_far below is stays)
+        then-input-kept+then-input-ne0 on ↦
+        rw
+        (on.begins-is, on.ends-is, on.own-is, on.used-is, add-one c.loop-i.i)
+        (appending_more ask so_far below is (goes_on input _ on.if-input-kept.true on.if-input-ne0.true-raw) on.message_entry-entry.ensures on.push.ensures)
+        | else-input-kept off ↦
+        let stays : goes input c.args.kept.machine ≡ false =
+        elim off.else-input-kept.branch [
+            else-input-kept-via-then-input-kept+else-input-ne0 light ↦ stays_light input _ light.if-input-kept.true light.if-input-ne0.false-raw
+            | else-input-kept-via-else-input-kept there ↦ stays_there input _ there.if-input-kept.false
+            ]
+        in
+        rw (off.begins-is, off.ends-is, off.own-is, off.used-is, add-one c.loop-i.i) (appending_same ask so_far below is stays)
         ]
 
 pub overflow_sub-run : goal.overflow_sub-run

@@ -36,7 +36,8 @@ pub loop-i-init : goal.loop-i-init
 loop-i-init c = joining_none c.requires
 
 pub overflow_add-held-in-loop-i : goal.overflow_add-held-in-loop-i
-overflow_add-held-in-loop-i c = overflow_add-held c
+overflow_add-held-in-loop-i c =
+    let ask = c.requires in let held = ask.held_few in let few = ask.few in omega arith
 
 pub overflow_add-i : goal.overflow_add-i
 overflow_add-i c = omega arith

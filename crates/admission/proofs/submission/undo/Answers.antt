@@ -20,7 +20,12 @@ remove_at-requires c =
     begins_asked c.loop-left.invariant c.loop-left-test.true c.entry_at-entry.ensures c.requires
 
 pub overflow_add-held-in-loop-left : goal.overflow_add-held-in-loop-left
-overflow_add-held-in-loop-left c = overflow_add-held c
+overflow_add-held-in-loop-left c =
+    let most = c.loop-left.invariant.at_most in
+    let ask = c.requires.undoable in
+    let held = ask.held_few in
+    let few = ask.few in
+    omega arith
 
 pub remove_at-requires-in-loop-left : goal.remove_at-requires-in-loop-left
 remove_at-requires-in-loop-left c =

@@ -1,7 +1,6 @@
 -- `screening::screened` meets its contract: each way out is the first test that refuses.
 use mathlib.Core.Path.{◌≡◌}
 use mathlib.Core.Bool.{false}
-use borrow.Author.Rules.{rules}
 use Rattle.rules.specs.Words.{largest_number}
 use Rattle.rules.specs.Refusals.{outside}
 use Rattle.screening.specs.Screens.{WithJob}

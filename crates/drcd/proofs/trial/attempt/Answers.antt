@@ -1,6 +1,5 @@
 -- `drcd::trial::attempt` meets its contract.
 use native.Mathlib.Omega.{arith}
-use borrow.Author.Rules.{rules}
 use Rattle.drcd.proofs.Attempts.{own_cost, ask_least, figures_fit, attempt_is}
 use Rattle.drcd.proofs.trial.attempt.Goals as goal
 

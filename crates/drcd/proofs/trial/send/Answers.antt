@@ -1,7 +1,6 @@
 -- `drcd::trial::send` meets its contract.
 use Prim.Native.Nat.{◌+◌, ◌*◌, ◌^◌, ◌<◌}
 use native.Mathlib.Omega.{arith}
-use borrow.Author.Rules.{rules}
 use Rattle.timeline.specs.Timeline.{tick_room}
 use Rattle.drcd.proofs.Sending.{takes, ask_beside, ask_span, place_fits, cost_at_most, sent_is}
 use Rattle.drcd.proofs.trial.send.Goals as goal

@@ -1,9 +1,8 @@
 -- `lines::line::begins_with` meets its contract: up to the byte i the key and the text agree.
-use Prim.Native.Nat.{◌-◌, ◌<◌}
+use Prim.Native.Nat.{◌<◌}
 use native.Mathlib.Omega.{arith}
 use lib.ListN.{length}
-use borrow.Author.Rules.{rules}
-use Rattle.lines.proofs.Begun.{Compared, compared_none, compared_more, differs, too_short, key_ended}
+use Rattle.lines.proofs.Begun.{compared_none, compared_more, differs, too_short, key_ended}
 use Rattle.lines.proofs.line.begins_with.Goals as goal
 use Rattle.lines.proofs.line.begins_with.Goals.{In-loop-i}
 

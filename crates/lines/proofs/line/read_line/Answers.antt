@@ -3,7 +3,6 @@ use mathlib.Core.Path.{sym, ◌∙◌}
 use Prim.Native.Nat.{◌+◌, ◌^◌, ◌<◌}
 use native.Mathlib.Omega.{arith}
 use lib.ListN.{drop}
-use borrow.Author.Rules.{rules}
 use Rattle.lines.specs.Parts.{NumberIs}
 use Rattle.lines.specs.DueLines.{due_of}
 use Rattle.lines.proofs.Lined.{part, key_size, Started, not_begun, key_within, ill_line, unfit_line, good_line, next_within}

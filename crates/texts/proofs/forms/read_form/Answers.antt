@@ -1,16 +1,14 @@
 -- `texts::forms::read_form` meets its contract: a turn reads one line, and its figure stands in the row.
 use mathlib.Core.Path.{sym, ◌∙◌}
-use Prim.Native.Nat.{◌-◌, ◌≤◌, ◌<◌}
+use Prim.Native.Nat.{◌≤◌, ◌<◌}
 use native.Mathlib.Omega.{arith}
 use lib.ListN.{length}
-use borrow.Author.Rules.{rules}
-use borrow.Author.Tests.{not-true, not-false}
 use Rattle.lines.specs.DueLines.{due_of}
 use Rattle.texts.specs.Stages.{form_at}
 use Rattle.lines.specs.Parts.{most_scanned}
 use Rattle.texts.specs.Parts.{Asks}
 use Rattle.texts.proofs.Staged.{stage_asks, stage_done, ask_next}
-use Rattle.texts.proofs.Reading.{said_read, said_refused, Took, took, ReadTo, read_none, read_room, read_more, read_stops, read_all}
+use Rattle.texts.proofs.Reading.{said_read, said_refused, Took, took, read_none, read_room, read_more, read_stops, read_all}
 use Rattle.texts.proofs.forms.read_form.Goals as goal
 use Rattle.texts.proofs.forms.read_form.Goals.{After-due_at-due, In-Read}
 

@@ -3,7 +3,6 @@ use mathlib.Core.Path.{refl}
 use Prim.Native.Nat.{◌*◌, ◌≤◌}
 use native.Mathlib.Omega.{arith}
 use lib.ListN.{get_or}
-use borrow.Author.Rules.{rules}
 use Rattle.rules.specs.Words.{most_tasks, most_machines}
 use Rattle.texts.specs.JobText.{task_size}
 use Rattle.texts.proofs.Figured.{tasks_within}

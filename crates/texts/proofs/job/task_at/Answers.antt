@@ -1,11 +1,10 @@
 -- `texts::job::task_at` meets its contract: one run time is taken in a turn.
 use mathlib.Core.Path.{refl}
-use Prim.Native.Nat.{◌+◌, ◌-◌, ◌*◌, ◌≤◌}
+use Prim.Native.Nat.{◌*◌, ◌≤◌}
 use native.Mathlib.Omega.{arith}
-use borrow.Author.Rules.{rules}
 use Rattle.rules.specs.Words.{most_tasks, most_machines}
 use Rattle.texts.specs.JobText.{task_size}
-use Rattle.texts.proofs.Figured.{tasks_within, Filled, filled_none, filled_more, single, single_at, task_there}
+use Rattle.texts.proofs.Figured.{tasks_within, filled_none, filled_more, single, single_at, task_there}
 use Rattle.texts.proofs.job.task_at.Goals as goal
 use Rattle.texts.proofs.job.task_at.Goals.{Start}
 

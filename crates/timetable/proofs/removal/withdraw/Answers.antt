@@ -1,7 +1,6 @@
 -- `timetable::removal::withdraw` meets its contract: a refused withdrawal, or the job's rows taken out.
 use mathlib.Core.Path.{refl}
 use native.Mathlib.Omega.{arith}
-use borrow.Author.Rules.{rules}
 use Rattle.timetable.proofs.Left.{call_is, call_long, refused_goes, withdrawal_asked, jobs_asked, note_asked}
 use Rattle.timetable.proofs.Left.{withdraw_asked, withdraw_left, withdraw_cost, withdraw_goes}
 use Rattle.timetable.proofs.removal.withdraw.Goals as goal

@@ -3,8 +3,8 @@
 
 The compiler puts nearly the whole register into one function. As code grows it may stop doing so, and large values that
 were never copied then are. So bench/run --apart measures the same proved code with the functions of MAIN kept apart. They
-are marked in the compiler's own intermediate code: `rt` runs with a copy of its kit, all links but for the compiler, which
-is this file.
+are marked in the compiler's own intermediate code: `rt` runs from a copy of its kit, all links but for `rt` itself, which
+goes by its own place, and the compiler, which is this file.
 """
 
 import os
@@ -56,28 +56,37 @@ def compile(words):
 
 
 def kit_apart(kit, folder):
-    """A copy of the kit in the folder: links, but for the compiler. Answers what rt's environment needs for it."""
-    tools = pathlib.Path("on") / os.uname().machine / "toolchain" / "bin"
-    own = [*reversed(tools.parents), tools]  # the folders that are not links
+    """A copy of the kit in the folder: links, but for rt and the compiler. Answers where its rt is."""
+    tools, commands = pathlib.Path("toolchain/bin"), pathlib.Path("bin")
+    own = [*reversed(tools.parents), tools, commands]  # the folders that are not links
     for inner in own:
-        (folder / inner).mkdir(exist_ok=True)
+        (folder / inner).mkdir(parents=True, exist_ok=True)
         for entry in (kit / inner).iterdir():
             if inner / entry.name not in own:
                 (folder / inner / entry.name).symlink_to(entry)
+    for name in ("rt", "rtlib.py"):
+        (folder / commands / name).unlink()
+        shutil.copy(kit / commands / name, folder / commands / name)
     compiler = folder / tools / "clang"
     compiler.unlink()
     real, own_file = (kit / tools / "clang").resolve(), pathlib.Path(__file__).resolve()
     compiler.write_text(f'#!/bin/sh\n{COMPILER}="{real}" exec "{sys.executable}" "{own_file}" "$@"\n')  # it is called with no environment
     compiler.chmod(0o755)
-    return {"RATTLE_HOME": str(folder)}
+    return folder / commands / "rt"
+
+
+def archive(root):
+    return root / "crates" / "exports" / "out" / "libexports.a"
 
 
 def build(root, apart):
-    """Writes target/staticlib/libexports.a, and says whether it could."""
+    """Writes the archive anew, and says whether it could."""
+    rt = pathlib.Path(shutil.which("rt")).resolve()
+    archive(root).unlink(missing_ok=True)
     with tempfile.TemporaryDirectory(prefix="register-bench-kit-") as folder:
-        kit = pathlib.Path(shutil.which("rt")).resolve().parent.parent
-        more = kit_apart(kit, pathlib.Path(folder)) if apart else {}
-        return subprocess.run(["rt", "staticlib", "exports"], cwd=root, stdout=subprocess.DEVNULL, env={**os.environ, **more}).returncode == 0
+        command = kit_apart(rt.parent.parent, pathlib.Path(folder) / "kit") if apart else rt
+        ran = subprocess.run([command, "lib"], cwd=root / "crates" / "exports", stdout=subprocess.DEVNULL)
+    return ran.returncode == 0 and archive(root).is_file()
 
 
 if __name__ == "__main__":

@@ -24,13 +24,13 @@ from docs_check.names import Names, read_words
 from docs_check.tree import Tree, antt_names, rt_names
 
 TREE = {
-    "crates.txt": "# NAME: the crates that it uses\nrules:\nscript: rules io\nregister: script io libc\n",
+    "crates.txt": "# NAME: the crates that it uses\nrules:\nscript: rules json\nregister: script\nffi staticlib: rules\n",
     "crates/rules/specs/Words.antt": """\
         -- A reader must believe this.
-        use mathlib.Core.Bool.{Bool}
+        use Rattle.std.specs.Prelude.{Bool, ℕ}
 
-        abbrev pub most-tasks : ℕ
-        most-tasks = 16
+        abbrev pub most_tasks : ℕ
+        most_tasks = 16
 
         pub record Span
             (of : ℕ)
@@ -49,7 +49,10 @@ TREE = {
             inner : Bool
             inner = bytes "deadline="
         """,
-    "crates/rules/proofs/rows/gone/Proof.antt": "needed : Need\n",
+    "crates/rules/proofs/rows/gone/Invariants.antt": "kept : Need\n",
+    "crates/rules/proofs/rows/gone/Answers.antt": "pub needed : goal.needed\n",
+    "crates/rules/proofs/rows/older/Proof.antt": "asked : Need\n",
+    "crates/rules/out/incremental/Kept.antt": "pub built : Bool\n",
     "crates/rules/src/lib.rt": """\
         pub mod rows;
 
@@ -71,15 +74,32 @@ TREE = {
                 let inner = 3;
             }
         }
+
+        impl fmt::Display for Row {
+            fn fmt<W: fmt::Write>(&self, f: &mut fmt::Formatter<W>) -> fmt::Result {
+                let inner = 4;
+            }
+        }
+
+        pub trait Listed {
+            fn place<W: Write>(&self, writer: &mut W) -> u32;
+        }
+
+        impl<T: Listed> Held<T> {
+            pub fn held(&self) -> u32 {
+                let inner = 5;
+            }
+        }
         """,
     "crates/rules/src/rows.rt": 'pub fn blank() -> Row {\n    begun(text, b"job=")\n}\n',
     "crates/script/src/main.rt": """\
         fn main() {
-            libc::read(0, rest);
+            std::fs::read(rest);
             put(b"act=submit\\n");
             let Some(x) = y else {
         """,
     "crates/register/src/main.rt": "fn main() {\n}\n",
+    "crates/ffi/src/lib.rt": "",
     "crates/script/must-fail/one_job_listed.edit": "an edit\n",
     "examples/first.script": "act=submit\njob=7\n",
     "examples/first.out": "answer=0\ntask=0\ncost=20\n",
@@ -161,19 +181,20 @@ class TestTree(OverATree):
     def test_names_of_rt(self):
         text = textwrap.dedent(TREE["crates/rules/src/lib.rt"])
         found = {"::".join((*inside, name)) for inside, name in rt_names(text)}
-        due = "rows TASKS Row Row::start Holder Holder::TaskOn Holder::TaskOn::machine Holder::Nothing Row::new"
+        due = "rows TASKS Row Row::start Holder Holder::TaskOn Holder::TaskOn::machine Holder::Nothing Row::new Row::fmt"
+        due += " Listed Listed::place Held::held"
         self.assertEqual(found, set(due.split()))
 
     def test_names_of_antt(self):
         text = textwrap.dedent(TREE["crates/rules/specs/Words.antt"])
         found = {".".join((*inside, name)) for inside, name in antt_names(text)}
-        due = "most-tasks Span Span.start Span.finish Span.n Resource Resource.machine Resource.link meets"
+        due = "most_tasks Span Span.start Span.finish Span.n Resource Resource.machine Resource.link meets"
         self.assertEqual(found, set(due.split()))
 
     def test_the_rest(self):
         tree = Tree(self.root)
-        self.assertEqual(tree.crates, {"rules", "script", "register"})
-        self.assertEqual(tree.libraries, {"io", "libc"})
+        self.assertEqual(tree.crates, {"rules", "script", "register", "ffi"})
+        self.assertEqual(tree.libraries, {"std", "json"})
         self.assertEqual(tree.edits, {"one_job_listed", "script/one_job_listed"})
         self.assertEqual(tree.inputs, {"mixed", "worst-link"})
         self.assertEqual(tree.keys, {"deadline": {""}, "job": {""}, "act": {"submit"}})
@@ -183,18 +204,25 @@ class TestTree(OverATree):
 class TestNames(OverATree):
     # With `,` between them, and `|` for a `,` in one.
     GOOD = """crates/rules/specs/Words.antt, rules/specs/Words.antt, Words.antt, specs/, rules/src/*.rt, NAME.script,
-        proofs/MODULE/FUNCTION/Proof.antt, target/, target/bin/register, rules, libc, Words, most-tasks, Span,
+        proofs/MODULE/FUNCTION/Answers.antt, gone/Invariants.antt, out/, crates/register/out/register, out/register,
+        crates/NAME/out/NAME, crates/ffi/out/libffi.a, out/libNAME.a, ffi/out/, rules, std, json, Words, most_tasks, Span,
         Span.start, Words.Span.finish, rules.Words.meets, Words.meets, Resource, link, TASKS, Row, Row::new,
-        rules::Row::new, rows, rules::rows::blank, rules::blank, Holder::TaskOn, Nothing, libc::read, one_job_listed,
+        rules::Row::new, rows, rules::rows::blank, rules::blank, Holder::TaskOn, Nothing, std::fs::read, one_job_listed,
+        Row::fmt, Held::held, Listed::place(writer),
         script/one_job_listed, first, mixed, worst-link, deadline, deadline=, job=7, job=N, act=submit,
-        act=submit job=7, 65|536, begun(text| b"job="), let .. else, rt, rt ci, rt check register, rt check CRATE,
-        RT_JOBS=1 rt must-fail rules, tests/tool --all, --all, target/bin/register < examples/first.script,
-        rt check register && target/bin/register, python3 tests/tool, Row::new(start| finish), blank()"""
-    BAD = """crates/rules/specs/Word.antt, rules/Words.antt, Word.antt, OTHER.script, target/bin/rules.x, gone,
-        target/bin/nothing, rulez, Span.begin, Words.start.Span, Span::new, inner, needed, blank::rows, script::blank,
-        Holder::Row, libc::write, two_jobs_listed, rules/one_job_listed, second, dense, dead, act=withdraw, deadline=x,
-        act=submit job, act=submit jobs=7, job=7x, a, begun(text| b"act="), rt cj, rt check rulez, tests/tool --none,
-        --none, tests/tools, target/bin/register < examples/second.script, rt check register && tests/tools,
+        act=submit job=7, 65|536, begun(text| b"job="), let .. else, rt, rt ci, rt ci register, rt ci CRATE, rt check,
+        RT_JOBS=1 rt must-fail rules, rt run -- first, rt all check, tests/tool --all, --all,
+        crates/register/out/register < examples/first.script, cd crates/ffi && rt lib,
+        (cd crates/register && rt run < ../../examples/first.script), cd crates/rules && rt check && cd ../.. && tests/tool,
+        cd crates/register && out/register < /dev/null, python3 tests/tool, Row::new(start| finish), blank()"""
+    BAD = """crates/rules/specs/Word.antt, rules/Words.antt, Word.antt, OTHER.script, out/rules.x, gone, older, kept, asked,
+        out/nothing, crates/rules/out/register, out/libnothing.a, target/bin/register, built, Kept.antt, fmt::fmt,
+        rulez, Span.begin, Words.start.Span, Span::new, inner, needed, blank::rows, script::blank, most-tasks,
+        Holder::Row, std::fs::write, two_jobs_listed, rules/one_job_listed, second, dense, dead, act=withdraw, deadline=x,
+        act=submit job, act=submit jobs=7, job=7x, a, begun(text| b"act="), rt cj, rt ci rulez, tests/tool --none,
+        --none, tests/tools, crates/register/out/register < examples/second.script, rt ci register && tests/tools,
+        rt check register, rt staticlib ffi, rt dev rules, (rt ci, cd crates/rulez && rt check, cd .. && rt ci,
+        cd crates/register && rt run < examples/first.script, cd crates/register && crates/register/out/register,
         Row::new(finish| start), blank(row), rules::main(), n, put(b"act=sub"""
 
     def texts(self, listed):
@@ -278,8 +306,8 @@ class TestBlocks(OverATree):
         self.passes("```\n$ false\n```\n\n```text\n$ false\n```\n\n```sh\nfalse\n```\n\n    $ false\n")
 
     def test_register(self):
-        text = "```console\n$ target/bin/register < examples/first.script\nanswer=0\n```\n"
-        building = "#!/bin/sh\nmkdir -p target/bin && cp bin/built target/bin/register\n"
+        text = "```console\n$ crates/register/out/register < examples/first.script\nanswer=0\n```\n"
+        building = '#!/bin/sh\n[ "$*" = run ] && mkdir -p out && cp ../../bin/built out/register\n'
         for name, does in (("rt", building), ("built", "#!/bin/sh\necho answer=0\n")):
             (self.root / "bin").mkdir(exist_ok=True)
             (self.root / "bin" / name).write_text(does)
@@ -288,7 +316,7 @@ class TestBlocks(OverATree):
             self.passes(text)
             (self.root / "bin/rt").unlink()
             self.passes(text)
-            (self.root / "target/bin/register").unlink()
+            (self.root / "crates/register/out/register").unlink()
             status, lines = self.checked(text)
         self.assertEqual(status, 1)
         self.assertTrue(lines[0].startswith("README.md:2: the register is not built: "), lines)

@@ -10,7 +10,7 @@ import sys
 
 from scripts import ROOT
 
-REGISTER = ROOT / "target" / "bin" / "register"
+REGISTER = ROOT / "crates" / "register" / "out" / "register"
 BASELINE = ROOT / "bench" / "baseline"
 NUMBERS = re.compile(rb"^(answer|refused)=(\d+)$", re.MULTILINE)
 
@@ -33,7 +33,7 @@ def add_register(reading):
 def built(register):
     """The whole path of the register, which has to be built."""
     if not register.is_file():
-        stop(f"{register.name} is not built; 'rt check register' proves it and writes target/bin/register")
+        stop(f"{register.name} is not built; 'rt run' in crates/register proves it and writes out/register there")
     return register.resolve()
 
 

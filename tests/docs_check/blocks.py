@@ -17,7 +17,8 @@ from docs_check.lists import split_at
 
 ANY = "..."
 PATIENCE, SLOW_PATIENCE = 120, 7200  # seconds for a command
-REGISTER = "target/bin/register"
+REGISTER = "crates/register/out/register"
+BUILDING = "cd crates/register && rt run"  # it runs what it has built, here on no input
 
 
 def commands(block):
@@ -96,7 +97,7 @@ def wrong_build(command, root):
     """Builds the register if a command needs it and it is not there. What is wrong, or nothing."""
     if REGISTER not in command or (root / REGISTER).is_file():
         return ""
-    printed, status = run("rt check register", root, SLOW_PATIENCE)
+    printed, status = run(BUILDING, root, SLOW_PATIENCE)
     return "" if status == 0 else f"the register is not built: {printed[-300:]}"
 
 

@@ -1,5 +1,7 @@
 """Whether a name that a document quotes stands in the tree."""
 
+import itertools
+import os
 import re
 import shlex
 
@@ -8,9 +10,12 @@ from docs_check.lists import split_at
 # What a document writes in the place of a name.
 STAND_INS = re.compile(r"\b(?:NAME|MODULE|FUNCTION|CRATE|FILE)\b")
 TOOLS = ("sh", "python3", "cargo", "git", "valgrind")
-RT = "check prove dev staticlib try must-fail ci goals mir fmt doc version selftest".split()
-OF_CRATES = "check dev staticlib try must-fail goals mir".split()
+# The commands of `rt`: those at the top of the tree, which take crates; those in a crate's folder, which take none; others.
+OF_CRATES = "ci must-fail".split()
+IN_CRATE = "check verdict lib run test try fmt tidy plant".split()
+RT = OF_CRATES + IN_CRATE + "all new expand lemma seed names doc version help selftest".split()
 JOINS = {"&&", "||", "|", ";"}
+BUILT = re.compile(r"(?:(?:crates/)?(\w+)/)?out(?:/(?:lib(\w+)\.a|(\w+)))?/?")
 
 
 def read_words(text):
@@ -52,8 +57,13 @@ class Names:
         """A path, or the end of one; or something that the toolchain builds of a crate."""
         if self.tree.has_path(STAND_INS.sub("*", quoted)):
             return True
-        built = re.fullmatch(r"target(?:/bin/(\w+)|/rlib/(\w+)\.rlib|/staticlib/lib(\w+)\.a|/\w+)?/?", quoted)
-        return bool(built) and all(crate is None or crate in self.tree.crates for crate in built.groups())
+        built = BUILT.fullmatch(quoted)
+        crates = {crate for crate in built.groups() if crate} if built else set()
+        return bool(built) and len(crates) < 2 and all(self.is_crate(crate) for crate in crates)
+
+    def is_crate(self, quoted):
+        """A crate of the tree, or what stands for one."""
+        return quoted in self.tree.crates or bool(STAND_INS.fullmatch(quoted))
 
     def is_name(self, quoted):
         """A crate, a must-fail edit, an input of the benchmark, or a name of a source file, perhaps after its place."""
@@ -80,7 +90,7 @@ class Names:
         if not found or not self.is_name(found[1]):
             return False
         parameters = "".join(rf"[^)]*?\b{name}: " for name in re.findall(r"\w+", found[2]))
-        pattern = re.compile(rf"\bfn {found[1].split('::')[-1]}\({parameters}")
+        pattern = re.compile(rf"\bfn {found[1].split('::')[-1]}(?:<[^(]*>)?\({parameters}")
         return any(pattern.search(text) for text in self.tree.texts.values())
 
     def is_fragment(self, quoted):
@@ -92,38 +102,58 @@ class Names:
         return bool(re.fullmatch(r"--[\w-]+", quoted)) and any(quoted in text for text in self.tree.commands.values())
 
     def is_command(self, quoted):
-        """A command line, each of whose commands is one of the tree or a known tool."""
+        """A command line, each of whose commands is one of the tree or a known tool. Of one in brackets, all is in them."""
         try:
             reader = shlex.shlex(quoted, posix=True, punctuation_chars=True)
             reader.whitespace_split = True
             words = list(reader)
         except ValueError:
             return False
-        return all(self.is_simple_command(command) for command in split_at(JOINS, words))
+        if words[:1] == ["("] and words[-1:] == [")"]:
+            words = words[1:-1]
+        folder = ""
+        for command in split_at(JOINS, words):
+            if command[:1] == ["cd"]:
+                folder = self.entered(folder, command[1:])
+                if folder is None:
+                    return False
+            elif not self.is_simple_command(command, folder):
+                return False
+        return True
 
-    def is_simple_command(self, words):
+    def entered(self, folder, words):
+        """The folder that `cd` leads to, or nothing if there is none."""
+        path = os.path.normpath(os.path.join(folder, *words)) if len(words) == 1 else ".."
+        return path if path == "." or self.is_path(path) else None
+
+    def is_simple_command(self, words, folder):
+        """A command in a folder of the tree. A file that it names has to be there."""
         while words and re.fullmatch(r"[A-Z_]+=\S*", words[0]):
             words = words[1:]
         if not words:
             return False
         name, rest = words[0], words[1:]
         files = [word for word in rest if re.search(r"\w/", word) and not word.startswith("-")]
-        if not all(self.is_path(word) or word == "/dev/null" for word in files):
+        files = [os.path.normpath(os.path.join(folder, word)) for word in files]
+        if not all(self.is_path(file) or file == "/dev/null" for file in files):
             return False
         if name == "rt":
             return self.is_rt(rest)
-        return name in TOOLS or self.is_own(name, rest)
+        return name in TOOLS or self.is_own(os.path.normpath(os.path.join(folder, name)), rest)
 
     def is_rt(self, rest):
         """The words after `rt`: one that it knows, and crates where it takes them."""
         if not rest or rest[0] not in RT:
             return not rest
-        named = [word for word in rest[1:] if not word.startswith("-")] if rest[0] in OF_CRATES else []
-        return all(word in self.tree.crates or STAND_INS.fullmatch(word) for word in named)
+        named = itertools.takewhile(lambda word: word not in ("--", "<", ">"), rest[1:])
+        named = [word for word in named if not word.startswith("-")]
+        if rest[0] in OF_CRATES:
+            return all(map(self.is_crate, named))
+        return rest[0] not in IN_CRATE or not named
 
     def is_own(self, name, rest):
         """A program of the tree, and options that its text has."""
-        if name.startswith("target/"):
+        if re.search(r"(?:^|/)out/", name):
             return self.is_path(name)
         options = [word.partition("=")[0] for word in rest if word.startswith("--")]
         return name in self.tree.commands and all(option in self.tree.commands[name] for option in options)

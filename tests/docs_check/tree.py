@@ -6,16 +6,22 @@ import os
 import pathlib
 import re
 
-SKIPPED = {".git", "target", "__pycache__"}
+SKIPPED = {".git", "target", "out", "__pycache__"}
 
 # Names of an .rt file: what is declared, and what a struct, an enum or a variant with fields holds.
-ITEM = re.compile(r'(?:pub(?:\(\w+\))? )?(?:unsafe )?(?:extern "C" )?(fn|struct|enum|const|static|mod|type|impl) (\w+)')
+ITEM = re.compile(
+    r'(?:pub(?:\(\w+\))? )?(?:unsafe )?(?:extern "C" )?'
+    r"(fn|struct|enum|trait|const|static|mod|type|impl)(?:<.*?>)? (?:[\w:]+(?:<.*?>)? for )?(\w+)"
+)
 MEMBER = re.compile(r"(?:pub(?:\(\w+\))? )?(\w+)\s*(?::|,|\{|\(|$)")
 HOLDERS = ("struct", "enum", "variant")
 
 # Names of an .antt file: what is defined, and what a module, a record or a data type holds.
 SECTION = re.compile(r"(?:(?:pub|abbrev|unfoldable) )*(module|record|data|mod) ([^\s(){}:=]+)")
 DEFINED = re.compile(r"(?:(?:pub|abbrev|unfoldable) )*([^\s(){}:=]+(?: [^\s(){}:=]+)*) :(?:\s|$)")
+
+# Of the proof of a function, the invariants and the answers, or all: names there are those of what is asked, and no others.
+OF_FUNCTION = ("Invariants.antt", "Answers.antt", "Proof.antt")
 
 LITERAL = re.compile(r'\b(?:b|bytes )"([^"]*)"')
 
@@ -52,7 +58,7 @@ def rt_names(text):
         inside = tuple(name for _, _, name in stack)
         kind = stack[-1][1] if stack else "file"
         item, member = ITEM.match(line), MEMBER.match(line)
-        if item and kind in ("file", "impl", "mod"):
+        if item and kind in ("file", "impl", "trait", "mod"):
             if item[1] != "impl":
                 yield inside, item[2]
             stack.append((indent, item[1], item[2]))
@@ -117,7 +123,7 @@ class Tree:
         """Adds the names of a source file, which stand in its crate and in the module that it is, and its keys."""
         self.texts["/".join(path)] = " ".join(text.split())
         self.add_keys(text)
-        if path[-1] != "Proof.antt":
+        if path[-1] not in OF_FUNCTION:
             module = (path[1],) if name in ("lib", "main", "Lib") else (path[1], name)
             self.owners[name].add((path[1],))
             for inside, own in SOURCES[path[-1].rpartition(".")[2]](text):
@@ -130,12 +136,12 @@ class Tree:
                 self.keys.setdefault(key, set()).add(word)
 
     def read_crates(self):
-        """The crates, and those of the toolchain that they use."""
-        crates, used = set(), set()
+        """The crates, and the libraries of the toolchain: those that a crate's line has, and `std`."""
+        crates, used = set(), {"std"}
         for line in self.text("crates.txt").splitlines():
             name, colon, uses = line.partition("#")[0].partition(":")
             if colon:
-                crates.add(name.strip())
+                crates.add(name.split()[0])  # there may be settings behind it, as `staticlib`
                 used |= set(uses.split())
         return crates, used - crates
 

@@ -1,6 +1,5 @@
 -- `script::put_too_long` meets its contract: the refusal of a fresh register.
 use native.Mathlib.Omega.{arith}
-use borrow.Author.Rules.{rules}
 use Rattle.rules.specs.Words.{fresh, setup_by_default}
 use Rattle.script.proofs.Held.{fresh_timetable}
 use Rattle.script.proofs.put_too_long.Goals as goal

@@ -1,6 +1,5 @@
 -- `tally::guarantee_ratio` meets its contract: each way out is one case of `RatioIs`.
 use mathlib.Core.Path.{refl}
-use borrow.Author.Rules.{rules}
 use borrow.Author.Tests.{eq-eqb, ne_eqb, lt-ltb, le-ltb}
 use Rattle.tally.proofs.guarantee_ratio.Goals as goal
 

@@ -1,6 +1,5 @@
 -- `admission::submission::judged` meets its contract: what placing found, settled, and taken off again if it is refused.
 use native.Mathlib.Omega.{arith}
-use borrow.Author.Rules.{rules}
 use Rattle.admission.proofs.Judging.{base_fits, place_asked, settle_asked, undo_asked_of, judged_accepted, judged_refused}
 use Rattle.admission.proofs.submission.judged.Goals as goal
 

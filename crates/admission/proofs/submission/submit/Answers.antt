@@ -1,7 +1,6 @@
 -- `admission::submission::submit` meets its contract: refused by the tests or after placing, or the new rows have joined the columns.
 use mathlib.Core.Path.{refl}
 use native.Mathlib.Omega.{arith}
-use borrow.Author.Rules.{rules}
 use Rattle.admission.proofs.Submitted.{tested_asked, early_refused, judged_asked, late_refused, rows_fit, cost_fits, joins_asked, number_fits, accepted_submit}
 use Rattle.admission.proofs.Submitted.{submitted_long}
 use Rattle.admission.proofs.submission.submit.Goals as goal

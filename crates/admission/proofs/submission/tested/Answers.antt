@@ -1,6 +1,5 @@
 -- `admission::submission::tested` meets its contract: each way out is the first test that refuses.
 use native.Mathlib.Omega.{arith}
-use borrow.Author.Rules.{rules}
 use Rattle.admission.proofs.Testing.{LaidFor, row_asked, laid_for, layout_asked, tested_early, number_narrow, first_asked, tested_5, tested_6, tested_0}
 use Rattle.admission.proofs.submission.tested.Goals as goal
 use Rattle.admission.proofs.submission.tested.Goals.{After-layout_of-layout}

@@ -1,6 +1,5 @@
 -- `placement::bookings::message_entry` meets its contract: in range, each figure fits, and so do the end and the cost.
 use native.Mathlib.Omega.{arith}
-use borrow.Author.Rules.{rules}
 use Rattle.placement.proofs.Booked.{link_ticks_at_most, message_cost_at_most, its_link, its_code_below, message_made_is}
 use Rattle.placement.proofs.bookings.message_entry.Goals as goal
 

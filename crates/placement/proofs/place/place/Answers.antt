@@ -6,7 +6,7 @@ use native.Mathlib.Numerals.{add-one}
 use borrow.Author.Tests.{not-true, not-false}
 use Rattle.rules.specs.Words.{most_tasks}
 use Rattle.rules.proofs.Sums.{index_fits}
-use Rattle.placement.proofs.Turning.{Turning, turning_none, turning_all, turning_over, index_few, dispatch_asked, release_room, gather_asked}
+use Rattle.placement.proofs.Turning.{turning_none, turning_all, turning_over, index_few, dispatch_asked, release_room, gather_asked}
 use Rattle.placement.proofs.Turning.{choose_asked, turning_late, LaidFor, laid_for, append_asked, turning_more, turns_few}
 use Rattle.placement.proofs.Turning.{rows_few, same_begins, same_ends, cost_room}
 use Rattle.placement.proofs.place.place.Goals as goal

@@ -1,7 +1,6 @@
 -- `Register::new` meets its contract: the fresh register keeps an empty timeline and no end.
 use mathlib.Core.Path.{◌≡◌, refl, sym, ap₂, ◌∙◌, subst}
 use Prim.Native.Nat.{◌*◌}
-use borrow.Author.Rules.{rules}
 use lib.ListN.{replicate}
 use Rattle.rules.specs.Words.{fresh, setup_by_default, row_limit, held_by}
 use Rattle.rules.specs.Placing.{no_row}

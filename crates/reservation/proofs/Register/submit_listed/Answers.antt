@@ -2,7 +2,6 @@
 use mathlib.Core.Path.{◌≡◌, refl, sym}
 use native.Mathlib.Omega.{arith}
 use lib.ListN.{length}
-use borrow.Author.Rules.{rules}
 use Rattle.rules.specs.Words.{most_tasks, most_messages}
 use Rattle.rules.proofs.Indexed.{length_mapped}
 use Rattle.figures.specs.Rows.{RowOf}

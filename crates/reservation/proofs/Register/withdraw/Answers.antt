@@ -1,5 +1,4 @@
 -- `Register::withdraw` meets its contract: the timetable is lent, and what is left is left after its call.
-use borrow.Author.Rules.{rules}
 use Rattle.rules.specs.Refusals.{withdraws}
 use Rattle.reservation.specs.Registers.{state_of}
 use Rattle.reservation.proofs.Values.{valid_timetable}

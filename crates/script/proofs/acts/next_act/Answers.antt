@@ -4,7 +4,6 @@ use mathlib.Core.Bool.{Bool, true, false}
 use mathlib.Core.List.{List}
 use Prim.Native.Nat.{ℕ, ◌-◌}
 use lib.ListN.{length, take, drop}
-use borrow.Author.Rules.{rules}
 use Rattle.lines.specs.Lines.{begins}
 use Rattle.texts.specs.Reader.{default_machines}
 use Rattle.lines.proofs.Lined.{part}

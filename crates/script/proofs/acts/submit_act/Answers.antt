@@ -1,7 +1,6 @@
 -- `script::acts::submit_act` meets its contract: what the job reader answers of the part is the act.
 use mathlib.Core.Path.{sym, ap, ◌∙◌}
 use native.Mathlib.Omega.{arith}
-use borrow.Author.Rules.{rules}
 use Rattle.rules.specs.Words.{setup_by_default}
 use Rattle.texts.specs.Reader.{default_machines}
 use Rattle.script.specs.Acts.{unread}

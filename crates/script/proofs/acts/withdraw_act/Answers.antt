@@ -1,7 +1,6 @@
 -- `script::acts::withdraw_act` meets its contract: what the line reader answers of the part is the act.
 use mathlib.Core.Path.{refl}
 use native.Mathlib.Omega.{arith}
-use borrow.Author.Rules.{rules}
 use Rattle.rules.specs.Refusals.{withdraws}
 use Rattle.rules.specs.declared.Kind.TheVariants.{Withdraw}
 use Rattle.script.specs.Keys.{job_key}

@@ -1,5 +1,4 @@
 -- `script::calls::called` meets its contract: each kind goes to its call.
-use borrow.Author.Rules.{rules}
 use Rattle.script.proofs.Calling.{submit_asked, timetable_asked, submit_called, withdraw_called, advance_called, called_long}
 use Rattle.script.proofs.calls.called.Goals as goal
 

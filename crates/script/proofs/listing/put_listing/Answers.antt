@@ -1,7 +1,6 @@
 -- `script::listing::put_listing` meets its contract: the heading, then the rows.
 use mathlib.Core.Path.{refl}
 use native.Mathlib.Omega.{arith}
-use borrow.Author.Rules.{rules}
 use Rattle.script.proofs.Listed.{whole_listing}
 use Rattle.script.proofs.listing.put_listing.Goals as goal
 

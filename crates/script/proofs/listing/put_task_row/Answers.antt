@@ -1,6 +1,5 @@
 -- `script::listing::put_task_row` meets its contract: three fields, one after the other, and the span.
 use native.Mathlib.Omega.{arith}
-use borrow.Author.Rules.{rules}
 use Rattle.lines.specs.Figures.{field}
 use Rattle.script.specs.Keys.{job_key}
 use Rattle.script.specs.Replies.{task_key}

@@ -4,8 +4,6 @@ use Rattle.lines.proofs.Put.{puts_then}
 use Rattle.script.specs.Replies.{stop_line}
 use Rattle.script.proofs.put_refusal.Goals as goal
 
--- The stops: the start, and the refusal's field.
-
 pub returns : goal.returns
 unfolding stop_line
 returns c s st of =

@@ -4,8 +4,6 @@ use Rattle.rules.specs.Words.{fresh, setup_by_default}
 use Rattle.script.proofs.Held.{fresh_timetable}
 use Rattle.script.proofs.put_too_long.Goals as goal
 
--- The stop: the start.
-
 pub put_refusal-requires : goal.put_refusal-requires
 put_refusal-requires c = record {
   timetable = record { setup = setup_by_default; state = fresh; is = fresh_timetable c.fresh.ensures };

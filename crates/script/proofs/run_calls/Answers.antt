@@ -19,8 +19,6 @@ use Rattle.script.proofs.Running.{running_calls, running_called}
 use Rattle.script.proofs.run_calls.Goals as goal
 use Rattle.script.proofs.run_calls.Goals.{After-asking, At-loop-at, In-Called}
 
--- The stops: the start and the table, and in a turn its test, the act read, and the call.
-
 table_is : (c : At-loop-at) → TableOf setup_by_default c.table_figures-table.result
 table_is c =
     subst (λ s. TableOf s c.table_figures-table.result) c.default_setup.ensures c.table_figures-table.ensures
@@ -38,7 +36,6 @@ says : (c : In-Called) →
 says c = subst (ActSays _ _) c.in-Called.is c.next_act-act.ensures.says
 
 -- the columns have their lengths
-
 long : (c : At-loop-at) → Long c.loop-at.begins c.loop-at.ends c.loop-at.jobs c.loop-at.notes
 long c = timetable_long c.loop-at.invariant.timetable
 

@@ -4,8 +4,6 @@ use borrow.Author.Tests.{eq-eqb, ne_eqb}
 use Rattle.tally.specs.Tallies.{most_counted, counted}
 use Rattle.tally.proofs.counted_of.Goals as goal
 
--- The stops that the proof goes back to.
-
 pub returns-then-t-eq-MOST_COUNTED : goal.returns-then-t-eq-MOST_COUNTED
 unfolding counted
 returns-then-t-eq-MOST_COUNTED c =

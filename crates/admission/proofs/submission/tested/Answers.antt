@@ -4,10 +4,7 @@ use Rattle.admission.proofs.Testing.{LaidFor, row_asked, laid_for, layout_asked,
 use Rattle.admission.proofs.submission.tested.Goals as goal
 use Rattle.admission.proofs.submission.tested.Goals.{After-layout_of-layout}
 
--- The stops that the proof goes back to.
-
 -- the layout is that of every job that the row is of
-
 laid : (c : After-layout_of-layout) → LaidFor c.args.table.now c.args.row.now c.layout_of-layout.result
 laid c = laid_for c.machines_of.ensures c.layout_of-layout.ensures
 

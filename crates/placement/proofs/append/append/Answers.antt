@@ -12,8 +12,6 @@ use Rattle.placement.proofs.Appending.{own_lasts, own_asked, own_push_asked, own
 use Rattle.placement.proofs.append.append.Goals as goal
 use Rattle.placement.proofs.append.append.Goals.{In-loop-i, Then-input-ne0, then-input-kept+then-input-ne0, else-input-kept, else-input-kept-via-then-input-kept+else-input-ne0, else-input-kept-via-else-input-kept}
 
--- The stops that the proof goes back to.
-
 pub overflow_add-task : goal.overflow_add-task
 overflow_add-task c = omega (arith, task_at_most c.requires)
 

@@ -3,8 +3,6 @@ use native.Mathlib.Omega.{arith}
 use Rattle.placement.proofs.Booked.{link_ticks_at_most, message_cost_at_most, its_link, its_code_below, message_made_is}
 use Rattle.placement.proofs.bookings.message_entry.Goals as goal
 
--- The stops that the proof goes back to.
-
 pub overflow_mul-len : goal.overflow_mul-len
 overflow_mul-len c = omega (arith, link_ticks_at_most c.requires c.time_of.ensures)
 

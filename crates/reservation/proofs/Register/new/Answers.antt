@@ -17,7 +17,6 @@ use Rattle.reservation.proofs.Values.{register_valid}
 use Rattle.reservation.proofs.Register.new.Goals as goal
 
 -- what the code makes of the tables and the blank row
-
 abbrev made : Setup → Row → Register
 made s b = record {
   setup = s;

@@ -5,8 +5,6 @@ use Rattle.reservation.proofs.Values.{valid_timetable}
 use Rattle.reservation.proofs.Leaving.{withdrawal_leaves}
 use Rattle.reservation.proofs.Register.withdraw.Goals as goal
 
--- The stops that the proof goes back to: the start, and the call over the timetable.
-
 pub withdraw-outcome-requires : goal.withdraw-outcome-requires
 withdraw-outcome-requires c = record { setup = c.args.self.setup; state = state_of c.args.self; is = valid_timetable c.requires }
 

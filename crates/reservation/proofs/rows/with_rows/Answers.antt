@@ -9,7 +9,6 @@ use Rattle.reservation.proofs.rows.with_rows.Goals as goal
 use Rattle.reservation.proofs.rows.with_rows.Goals.{After-row_of}
 
 -- the slot of the next row
-
 slot : (c : After-row_of) → c.args.count + c.loop-i.i < row_limit
 slot c = slot_below c.requires c.loop-i-test.true
 

@@ -7,8 +7,6 @@ use Rattle.script.specs.Acts.{unread}
 use Rattle.script.proofs.Acted.{job_read, job_read_within, job_unread}
 use Rattle.script.proofs.acts.submit_act.Goals as goal
 
--- The stops: the start, and the job as it was read.
-
 pub returns-in_default : goal.returns-in_default
 unfolding setup_by_default
 returns-in_default c =

@@ -8,8 +8,6 @@ use Rattle.script.proofs.Acted.{NumberLine, number_line, number_asked}
 use Rattle.script.proofs.acts.withdraw_act.Goals as goal
 use Rattle.script.proofs.acts.withdraw_act.Goals.{After-read_line-line}
 
--- The stops: the start, and the line as it was read.
-
 is_act : (c : After-read_line-line) → let a = c.args in NumberLine withdraws Withdraw job_key a.input.now a.from c.read_line-line.result
 is_act c = number_line withdraws Withdraw (λ row n. refl) job_key _ _ c.any_figure-due.ensures c.read_line-line.ensures
 

@@ -4,8 +4,6 @@ use native.Mathlib.Omega.{arith}
 use Rattle.script.proofs.Listed.{whole_listing}
 use Rattle.script.proofs.listing.put_listing.Goals as goal
 
--- The stops: the start, and the heading.
-
 pub put_rows-requires : goal.put_rows-requires
 put_rows-requires c =
     let written = c.put_heading-start.ensures in

@@ -9,8 +9,6 @@ use Rattle.script.proofs.Listed.{asked_count, rows_none, rows_long, row_room, ro
 use Rattle.script.proofs.listing.put_rows.Goals as goal
 use Rattle.script.proofs.listing.put_rows.Goals.{In-loop-k}
 
--- The stops: the start, the note that a turn reads, and the row that it makes.
-
 -- a turn's index lies within the columns, which have their lengths
 
 within : (c : In-loop-k) → c.loop-k.k < spans_room

@@ -9,8 +9,6 @@ use Rattle.script.proofs.Fields.{PutWithin, first_field, within_field, within_tw
 use Rattle.script.proofs.listing.put_task_row.Goals as goal
 use Rattle.script.proofs.listing.put_task_row.Goals.{After-put_span}
 
--- The stops: the start, and after each field.
-
 written : (c : After-put_span) →
     let a = c.args in
     PutWithin a.output.now a.at (task_listed a.machine a.task a.row) c.put_span.new.output c.put_span.result most_task_row

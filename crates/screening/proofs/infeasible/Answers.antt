@@ -4,8 +4,6 @@ use Rattle.screening.proofs.Ranged.{task_asked, run_asked, none_first}
 use Rattle.screening.proofs.Feasible.{task_listed, run_within, next_unable, next_late, next_ends, all_late}
 use Rattle.screening.proofs.infeasible.Goals as goal
 
--- The stops that the proof goes back to.
-
 pub run_of-run-requires : goal.run_of-run-requires
 run_of-run-requires c = run_asked (task_listed c.requires) c.loop-m-test.true
 

@@ -8,10 +8,7 @@ use Rattle.screening.proofs.Firsts.{number_known, screened_0, screened_1, screen
 use Rattle.screening.proofs.screened.Goals as goal
 use Rattle.screening.proofs.screened.Goals.{Else-number_outside}
 
--- The stops that the proof goes back to.
-
 -- the number is in range behind the first test
-
 number_inside : (c : Else-number_outside) →
     let args = c.args in
     WithJob args.row.now args.layout (λ s j. outside 1 largest_number j.number ≡ false)

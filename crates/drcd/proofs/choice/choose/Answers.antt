@@ -12,10 +12,7 @@ use Rattle.drcd.proofs.Chosen.{chosen_all, row_laid}
 use Rattle.drcd.proofs.choice.choose.Goals as goal
 use Rattle.drcd.proofs.choice.choose.Goals.{After-run_of-run, In-loop-m}
 
--- The stops that the proof goes back to.
-
 -- what was read of the task
-
 run_read : (c : After-run_of-run) → let args = c.args in
     (j : Job) (s : Setup) → JobIs s j args.row.now args.layout → args.turn.t < j.taskcount →
     c.run_of-run.result ≡ run_time j (args.turn.t + 1) (c.loop-m.m + 1)

@@ -8,8 +8,6 @@ use Rattle.drcd.proofs.Gathered.{gathered_none, gathered_other, gathered_more, g
 use Rattle.drcd.proofs.inputs.gather.Goals as goal
 use Rattle.drcd.proofs.inputs.gather.Goals.{After-sender_of-sender, In-loop-i, else-receiver-t, then-receiver-t}
 
--- The stops that the proof goes back to.
-
 asked : (c : In-loop-i) → AskMessageFigure c.args.layout.at c.loop-i.i
 asked c = message_asked c.requires.job c.loop-i-test.true
 

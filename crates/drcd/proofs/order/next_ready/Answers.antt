@@ -6,8 +6,6 @@ use Rattle.drcd.proofs.NextTask.{best_none, best_placed, best_waits, best_kept, 
 use Rattle.drcd.proofs.order.next_ready.Goals as goal
 use Rattle.drcd.proofs.order.next_ready.Goals.{In-loop-t, else-best-ne0-via-then-best-ne0+else-deadline-its, else-best-ne0-via-else-best-ne0}
 
--- The stops that the proof goes back to.
-
 asked : (c : In-loop-t) → AskTaskFigure c.args.layout.machines c.loop-t.t
 asked c = task_asked c.requires c.loop-t-test.true
 

@@ -12,8 +12,6 @@ use Rattle.drcd.proofs.TriedRows.{tried_none, inputs_few, tried_off, ask_send, c
 use Rattle.drcd.proofs.trial.try_inputs.Goals as goal
 use Rattle.drcd.proofs.trial.try_inputs.Goals.{In-loop-i, Joined-input-machine, else-input-eq0, else-input-machine, then-input-eq0, then-input-machine}
 
--- The stops that the proof goes back to.
-
 -- What holds in a turn.
 
 below : (c : In-loop-i) → c.loop-i.i < most_messages

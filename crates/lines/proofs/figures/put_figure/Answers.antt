@@ -8,7 +8,6 @@ use Rattle.lines.proofs.figures.put_figure.Goals as goal
 use Rattle.lines.proofs.figures.put_figure.Goals.{At-loop-rest}
 
 -- the next digit has its place
-
 placed : (c : At-loop-rest) → (c.args.at < c.loop-rest.i) × (c.loop-rest.i ≤ length c.loop-rest.output)
 placed c = digit_place c.loop-rest.invariant c.requires
 

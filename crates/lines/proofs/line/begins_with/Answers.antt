@@ -10,7 +10,6 @@ pub loop-i-init : goal.loop-i-init
 loop-i-init c = compared_none c.args.key.now c.args.text.now
 
 -- the text is as long as the key, so there is a byte
-
 byte_there : (c : In-loop-i) → c.loop-i.i < length c.args.text.now
 byte_there c = omega (arith, c.if-text-key.false, c.loop-i-test.true)
 

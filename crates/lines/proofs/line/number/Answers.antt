@@ -6,8 +6,6 @@ use Rattle.lines.specs.Figures.{zero_digit}
 use Rattle.lines.proofs.Numbers.{no_digits, too_many, feed_missing, other_byte, leading_zero, well}
 use Rattle.lines.proofs.line.number.Goals as goal
 
--- The stops that the proof goes back to.
-
 pub returns-then-count-eq0 : goal.returns-then-count-eq0
 returns-then-count-eq0 c = no_digits c.scan-digits.ensures c.if-count-eq0.true
 

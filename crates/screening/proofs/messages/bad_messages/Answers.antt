@@ -7,10 +7,7 @@ use Rattle.screening.proofs.Ascending.{ascend_none, message_bad, order_bad, asce
 use Rattle.screening.proofs.messages.bad_messages.Goals as goal
 use Rattle.screening.proofs.messages.bad_messages.Goals.{After-volume_of}
 
--- The stops that the proof goes back to.
-
 -- what the accessors answer is the next message
-
 read : (c : After-volume_of) →
     let args = c.args in
     MessageRead

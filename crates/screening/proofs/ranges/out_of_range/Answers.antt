@@ -3,8 +3,6 @@ use native.Mathlib.Omega.{arith}
 use Rattle.screening.proofs.Ranged.{none_first, scheduling_outside, task_inside, task_outside, tasks_inside}
 use Rattle.screening.proofs.ranges.out_of_range.Goals as goal
 
--- The stops that the proof goes back to.
-
 pub returns-then-scheduling_of-gt-LONGEST : goal.returns-then-scheduling_of-gt-LONGEST
 returns-then-scheduling_of-gt-LONGEST c = scheduling_outside c.scheduling_of.ensures c.if-scheduling_of-gt-LONGEST.true
 

@@ -5,8 +5,6 @@ use Rattle.screening.proofs.Ranged.{outside_below, outside_above, inside, task_a
 use Rattle.screening.proofs.Ranged.{deadline_outside, dispatch_outside, run_outside, run_inside, figures_inside}
 use Rattle.screening.proofs.ranges.task_outside.Goals as goal
 
--- The stops that the proof goes back to.
-
 pub returns-then-deadline-lt1 : goal.returns-then-deadline-lt1
 returns-then-deadline-lt1 c = deadline_outside c.requires c.deadline_of-deadline.ensures (outside_below 1 horizon _ c.if-deadline-lt1.true)
 

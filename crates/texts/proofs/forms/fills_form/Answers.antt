@@ -15,10 +15,6 @@ use Rattle.texts.proofs.Writing.{stage_filled, walk_none, walk_over, walk_unfit,
 use Rattle.texts.proofs.forms.fills_form.Goals as goal
 use Rattle.texts.proofs.forms.fills_form.Goals.{After-due_at-due, Else-due-width}
 
--- The stops that the proof goes back to.
-
--- The stops: the start, a turn's test, the line that is due with the figure, and a figure that is fit.
-
 abbrev figure : After-due_at-due → ℕ
 figure c = get_or c.args.row.now c.loop-i.i 0
 

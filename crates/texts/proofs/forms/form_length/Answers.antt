@@ -9,8 +9,6 @@ use Rattle.texts.proofs.Writing.{Accepts, walk_due, walk_written, measured_none,
 use Rattle.texts.proofs.forms.form_length.Goals as goal
 use Rattle.texts.proofs.forms.form_length.Goals.{After-due_at-due, After-width}
 
--- The stops: the start, a turn's test, and the line that is due.
-
 accepts : (c : After-due_at-due) →
     Accepts
     (form_at c.args.machines c.loop-i.stage)

@@ -6,8 +6,6 @@ use Rattle.texts.proofs.Writing.{Accepts, walk_due, wrote_none, wrote_room, wrot
 use Rattle.texts.proofs.forms.put_form.Goals as goal
 use Rattle.texts.proofs.forms.put_form.Goals.{After-due_at-due}
 
--- The stops: the start, a turn's test, the line that is due, and that line written.
-
 accepts : (c : After-due_at-due) →
     Accepts
     (form_at c.args.machines c.loop-i.stage)

@@ -12,8 +12,6 @@ use Rattle.texts.proofs.Reading.{said_read, said_refused, Took, took, read_none,
 use Rattle.texts.proofs.forms.read_form.Goals as goal
 use Rattle.texts.proofs.forms.read_form.Goals.{After-due_at-due, In-Read}
 
--- The stops: the start, the loop's head, the line that is due, and its answer.
-
 asked : (c : After-due_at-due) →
     Asks (form_at c.args.machines c.loop-stage.stage) c.due_at-due.result × (c.due_at-due.result.digits ≤ most_scanned)
 asked c =
@@ -30,7 +28,6 @@ line_read : (c : In-Read) →
 line_read c = took (said_read (sym c.in-Read.is ∙ c.read_line-line.ensures.answer_is))
 
 -- the figure has its place
-
 room : (c : In-Read) → c.loop-stage.count < length c.loop-stage.row
 room c = read_room c.loop-stage.invariant (asked (goal.at.In-Read c).After-due_at-due).0
 

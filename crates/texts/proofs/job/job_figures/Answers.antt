@@ -16,7 +16,6 @@ within : (s : Start) → s.args.job.taskcount * task_size s.args.machines ≤ mo
 within s = tasks_within s.requires.machines_at_most s.requires.tasks_at_most
 
 -- the row keeps its length, and what is put in has its place
-
 row_long : (c : At-loop-t) → length c.loop-t.row ≡ most_figures
 row_long c = c.loop-t.invariant.0.long ∙ simp length-set c.requires.long
 

@@ -10,7 +10,6 @@ use Rattle.texts.proofs.job.job_of.Goals as goal
 use Rattle.texts.proofs.job.job_of.Goals.{Start}
 
 -- the tasks' figures leave room for those of the messages
-
 within : (s : Start) → get_or s.args.row.now 2 0 * task_size s.args.machines ≤ most_tasks * task_size most_machines
 within s = tasks_within s.requires.machines_at_most s.requires.tasks_at_most
 

@@ -9,8 +9,6 @@ use Rattle.texts.proofs.Laid.{laid_none, laid_room, laid_more, laid_all}
 use Rattle.texts.proofs.job.put_messages.Goals as goal
 use Rattle.texts.proofs.job.put_messages.Goals.{Start}
 
--- The stops: the start, and the loop's head.
-
 messages_long : (s : Start) → length s.args.job.messages ≡ most_messages
 messages_long s = search length_mapped
 

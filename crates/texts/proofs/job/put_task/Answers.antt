@@ -12,7 +12,6 @@ use Rattle.texts.proofs.job.put_task.Goals as goal
 use Rattle.texts.proofs.job.put_task.Goals.{At-loop-m, Start}
 
 -- every machine has its run time, and the row keeps its length
-
 runs_long : (s : Start) → length s.args.task.runs ≡ most_machines
 runs_long s = search rules
 

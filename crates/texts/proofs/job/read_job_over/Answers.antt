@@ -3,8 +3,6 @@ use mathlib.Core.Path.{◌∙◌}
 use Rattle.texts.proofs.Figured.{job_room, row_read, blank_read, job_read}
 use Rattle.texts.proofs.job.read_job_over.Goals as goal
 
--- The stops: the start, and the form's answer, which read or refused.
-
 pub read_form-reading-requires : goal.read_form-reading-requires
 read_form-reading-requires c =
     record { some_machine = c.requires.some_machine; room = job_room c.args.machines c.requires.at_most }

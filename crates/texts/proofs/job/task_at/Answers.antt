@@ -9,7 +9,6 @@ use Rattle.texts.proofs.job.task_at.Goals as goal
 use Rattle.texts.proofs.job.task_at.Goals.{Start}
 
 -- the task's figures lie within the row
-
 within : (s : Start) → s.args.index * task_size s.args.machines ≤ most_tasks * task_size most_machines
 within s = tasks_within s.requires.machines_at_most (omega arith)
 

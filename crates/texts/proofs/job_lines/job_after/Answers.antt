@@ -12,7 +12,6 @@ use Rattle.texts.proofs.job_lines.job_after.Goals as goal
 use Rattle.texts.proofs.job_lines.job_after.Goals.{In-Tasks}
 
 -- there is a task
-
 some_task : (c : In-Tasks) → 1 ≤ c.args.figure
 some_task c =
     (taken_between (bytes "tasks=") 1 most_tasks c.args.figure (c.requires.taken _ _ (ap (job_at c.args.machines) c.in-Tasks.is))).0

@@ -4,8 +4,6 @@ use Rattle.timeline.proofs.Packed.{packing_is, packing_none, note_there, cost_fe
 use Rattle.timeline.proofs.removal.pack.Goals as goal
 use Rattle.timeline.proofs.removal.pack.Goals.{else-leaves-i, then-leaves-i}
 
--- What has gone before: the call, a turn of the loop, and the note that it reads.
-
 pub note_at-note-requires : goal.note_at-note-requires
 note_at-note-requires c =
     note_there c.requires c.loop-i.invariant c.loop-i-test.true (omega arith)

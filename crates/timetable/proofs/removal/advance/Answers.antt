@@ -3,10 +3,6 @@ use Rattle.timetable.proofs.Left.{call_is, call_long, refused_goes, told_here, q
 use Rattle.timetable.proofs.Left.{advance_asked, advance_left, advance_cost, advance_goes}
 use Rattle.timetable.proofs.removal.advance.Goals as goal
 
--- What has gone before: the call, what the move answers, the rows marked, and those taken out.
-
--- the call that what is left comes of
-
 pub returns-then-number-ne0 : goal.returns-then-number-ne0
 returns-then-number-ne0 c =
     call_is

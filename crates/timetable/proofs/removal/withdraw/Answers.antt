@@ -5,10 +5,6 @@ use Rattle.timetable.proofs.Left.{call_is, call_long, refused_goes, withdrawal_a
 use Rattle.timetable.proofs.Left.{withdraw_asked, withdraw_left, withdraw_cost, withdraw_goes}
 use Rattle.timetable.proofs.removal.withdraw.Goals as goal
 
--- What has gone before: the call, what it answers, the rows marked, and those taken out.
-
--- the call that what is left comes of
-
 pub returns-then-judged-ne0 : goal.returns-then-judged-ne0
 returns-then-judged-ne0 c =
     call_is

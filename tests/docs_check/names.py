@@ -10,7 +10,7 @@ from docs_check.lists import split_at
 # What a document writes in the place of a name.
 STAND_INS = re.compile(r"\b(?:NAME|MODULE|FUNCTION|CRATE|FILE)\b")
 TOOLS = ("sh", "python3", "cargo", "git", "valgrind")
-# The commands of `rt`: those at the top of the tree, which take crates; those in a crate's folder, which take none; others.
+# The commands of `rt`: those at the top of the tree, which take crates; those in a crate's folder, which take none; more.
 OF_CRATES = "ci must-fail".split()
 IN_CRATE = "check verdict lib run test try fmt tidy plant".split()
 RT = OF_CRATES + IN_CRATE + "all new expand lemma seed names doc version help selftest".split()
@@ -102,7 +102,7 @@ class Names:
         return bool(re.fullmatch(r"--[\w-]+", quoted)) and any(quoted in text for text in self.tree.commands.values())
 
     def is_command(self, quoted):
-        """A command line, each of whose commands is one of the tree or a known tool. Of one in brackets, all is in them."""
+        """A command line, each of whose commands is one of the tree or a known tool. It may stand in brackets."""
         try:
             reader = shlex.shlex(quoted, posix=True, punctuation_chars=True)
             reader.whitespace_split = True

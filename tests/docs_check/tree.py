@@ -20,7 +20,7 @@ HOLDERS = ("struct", "enum", "variant")
 SECTION = re.compile(r"(?:(?:pub|abbrev|unfoldable) )*(module|record|data|mod) ([^\s(){}:=]+)")
 DEFINED = re.compile(r"(?:(?:pub|abbrev|unfoldable) )*([^\s(){}:=]+(?: [^\s(){}:=]+)*) :(?:\s|$)")
 
-# Of the proof of a function, the invariants and the answers, or all: names there are those of what is asked, and no others.
+# Of the proof of a function, the invariants and the answers, or all. Names there are those of what the prover asks.
 OF_FUNCTION = ("Invariants.antt", "Answers.antt", "Proof.antt")
 
 LITERAL = re.compile(r'\b(?:b|bytes )"([^"]*)"')

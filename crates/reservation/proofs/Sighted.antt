@@ -49,7 +49,7 @@ none_runs {at = at} drawn first later row listed runs =
     by_less
     there.0
     at
-    (λ less. omega (arith, first.before there.0 less, there.2.Ends-there, runs.within.1))
+    (λ less. omega (arith, first.before there.0 less, there.2.ends_there, runs.within.1))
     (λ most. omega (arith, begins_ascend drawn at there.0 most there.1, there.2.begins_there, runs.within.0, later (omega arith)))
 
 -- a row that begins at a tick on a machine or before, and ends after it, is on the machine

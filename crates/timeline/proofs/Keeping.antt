@@ -66,7 +66,7 @@ onto_keep : (p : Row → Bool) {line : List Row} (rows : List Row) → Ascends l
 unfolding line_onto
 onto_keep p [] ascends = refl
 onto_keep p {line} (row ∷ rows) ascends =
-    onto_keep p rows (insert_ascends row ascends)
+    onto_keep p {line = insert_row row line} rows (insert_ascends row ascends)
     ∙ by_test
     (p row)
     (λ e. rw e (ap (λ l. line_onto l (keep p rows)) (keep_stays p row e ascends)))

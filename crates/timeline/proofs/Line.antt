@@ -184,6 +184,7 @@ module _ (Related : Row → Row → Type 0) (turned : (a b : Row) → Related a 
   onto_ranged {line} ranged rel end = ranged
   onto_ranged {line} ranged rel (more {x = row} {xs = rows} first rest) =
       onto_ranged
+      {line = insert_row row line}
       (insert_ranged ranged (λ x m. rel x row m (Memᴰ.head refl)))
       (λ x y m n.
       ⊎_elim

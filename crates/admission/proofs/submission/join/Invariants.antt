@@ -1,0 +1,10 @@
+use Prim.Native.Nat.{◌-◌}
+use native.Mathlib.Omega.{arith}
+use Rattle.admission.proofs.Joining.{Joining, joining_none, joining_more, joining_all, job_asked, note_asked}
+use Rattle.admission.proofs.submission.join.Given as goal
+
+abbrev pub invariant-loop-i : goal.invariant-loop-i
+invariant-loop-i l = Joining l.initial.jobs l.initial.notes l.own l.held l.count l.job l.last l.jobs l.notes l.i
+
+abbrev pub decreases-loop-i : goal.decreases-loop-i
+decreases-loop-i l = l.count - l.i

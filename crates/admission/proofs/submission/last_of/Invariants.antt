@@ -1,0 +1,11 @@
+use mathlib.Core.Logic.{⊎_elim}
+use Prim.Native.Nat.{◌-◌}
+use native.Mathlib.Omega.{arith}
+use Rattle.admission.proofs.LastFinish.{LastSoFar, last_none, last_more, last_all}
+use Rattle.admission.proofs.submission.last_of.Given as goal
+
+abbrev pub invariant-loop-i : goal.invariant-loop-i
+invariant-loop-i l = LastSoFar l.own l.count l.last l.i
+
+abbrev pub decreases-loop-i : goal.decreases-loop-i
+decreases-loop-i l = l.count - l.i

@@ -1,0 +1,10 @@
+use Prim.Native.Nat.{◌-◌}
+use native.Mathlib.Omega.{arith}
+use Rattle.figures.proofs.Lent.{SomeRates, no_rates, one_rate, all_rates}
+use Rattle.figures.proofs.lending.put_rates.Given as goal
+
+abbrev pub invariant-loop-m : goal.invariant-loop-m
+invariant-loop-m l = SomeRates l.initial.table l.rates l.machines l.table l.m
+
+abbrev pub decreases-loop-m : goal.decreases-loop-m
+decreases-loop-m l = l.machines - l.m

@@ -1,0 +1,8 @@
+-- `texts::job::read_job` meets its contract: the default table has as many machines as the code says.
+use borrow.Author.Rules.{rules}
+use Rattle.rules.specs.Words.{setup_by_default}
+use Rattle.texts.proofs.job.read_job.Goals as goal
+
+pub returns : goal.returns
+unfolding setup_by_default
+returns c = c.read_job_over.ensures

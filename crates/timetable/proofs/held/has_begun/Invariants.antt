@@ -1,0 +1,12 @@
+use mathlib.Core.Logic.{⊎_elim}
+use Prim.Native.Nat.{◌-◌}
+use native.Mathlib.Omega.{arith}
+use borrow.Author.Tests.{leb-true, leb-false}
+use Rattle.timetable.proofs.Carried.{NoneBegun, begun_none, begun_here, begun_past, begun_all}
+use Rattle.timetable.proofs.held.has_begun.Given as goal
+
+abbrev pub invariant-loop-i : goal.invariant-loop-i
+invariant-loop-i l = NoneBegun l.jobs l.begins l.count l.job l.clock l.i
+
+abbrev pub decreases-loop-i : goal.decreases-loop-i
+decreases-loop-i l = l.count - l.i

@@ -1,0 +1,7 @@
+-- `timetable::removal::accepted` meets its contract.
+use mathlib.Core.Path.{refl}
+use borrow.Author.Rules.{rules}
+use Rattle.timetable.proofs.removal.accepted.Goals as goal
+
+pub returns : goal.returns
+returns c = rw c.refusal.ensures refl

@@ -11,6 +11,7 @@ pub put_refusal-requires : goal.put_refusal-requires
 put_refusal-requires c = record {
   timetable = record { setup = setup_by_default; state = fresh; is = fresh_timetable c.fresh.ensures };
   room = omega (arith, c.requires);
+}
 
 pub returns : goal.returns
 returns c = c.put_refusal.ensures setup_by_default fresh (fresh_timetable c.fresh.ensures)

@@ -30,7 +30,7 @@ table_is c =
 -- the call of a turn, as the rules read it
 
 abbrev row_read : In-Called → List ℕ
-row_read c = c.next_act-act.new.at.1.0
+row_read c = c.next_act-act.new.row
 
 abbrev kind : In-Called → Kind
 kind c = c.in-Called.kind
@@ -113,11 +113,11 @@ returns c =
 
 pub shape_of-output-in_default : goal.shape_of-output-in_default
 shape_of-output-in_default c =
-    c.put_refusal.auto.0 ∙ c.loop-at.invariant.within.long
+    c.put_refusal.auto.output ∙ c.loop-at.invariant.within.long
 
 pub shape_of-output : goal.shape_of-output
 shape_of-output c =
-    c.put_listing.auto.0 ∙ c.loop-at.invariant.within.long
+    c.put_listing.auto.output ∙ c.loop-at.invariant.within.long
 
 pub default_setup-requires : goal.default_setup-requires
 default_setup-requires c = tt

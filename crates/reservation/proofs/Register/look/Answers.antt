@@ -13,12 +13,12 @@ use Rattle.reservation.proofs.Register.look.Goals.{Else-at-status, Else-place-be
 
 -- The stops that the needs go back to: the start, the tests of the machine passed, a span found, and its note read.
 
-is_machine : (c : Else-table-machine) → IsMachine c.args.t1.setup c.args.machine
+is_machine : (c : Else-table-machine) → IsMachine c.args.self.setup c.args.machine
 is_machine c = record { first = c.if-machine-lt1.false; last = c.if-table-machine.false }
 
 -- there is a span that ends after the tick
 
-below : (c : Else-at-status) → c.first_after-at.result < c.args.t1.status.count
+below : (c : Else-at-status) → c.first_after-at.result < c.args.self.status.count
 below c = let most = c.first_after-at.ensures.at_most in omega (arith, c.if-at-status.false)
 
 index_below : (c : Else-at-status) → c.first_after-at.result < spans_room
@@ -51,7 +51,7 @@ pub returns-then-place-begin : goal.returns-then-place-begin
 returns-then-place-begin c =
     sees_none _ _ _ c.requires (is_machine (goal.at.returns-then-place-begin c).Else-table-machine) c.first_after-at.ensures (λ some. c.if-place-begin.true)
 
-asked : (c : Else-place-begin) → AskNote c.args.t1.notes c.first_after-at.result
+asked : (c : Else-place-begin) → AskNote c.args.self.notes c.first_after-at.result
 asked c = note_asked c.requires (below (goal.at.Else-place-begin c).Else-at-status)
 
 pub offset_bounds-ends-at : goal.offset_bounds-ends-at

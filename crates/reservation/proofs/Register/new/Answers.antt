@@ -28,6 +28,7 @@ made s b = record {
   ends = replicate spans_room 0;
   jobs = replicate spans_room 0;
   notes = replicate (spans_room * note_size) 0;
+}
 
 made_fresh : made setup_by_default no_row ≡ register_of setup_by_default fresh
 unfolding line_onto least_of most_of holder_label held_by
@@ -37,4 +38,4 @@ pub returns : goal.returns
 returns c =
     let is : made c.default_setup-setup.result c.blank-rows.result ≡ register_of setup_by_default fresh
     = ap₂ made c.default_setup-setup.ensures c.blank-rows.ensures ∙ made_fresh in
-    (is, subst Valid (sym is) (register_valid setup_by_default fresh default_sound (bounded_fresh setup_by_default)))
+    record { value = is; valid = subst Valid (sym is) (register_valid setup_by_default fresh default_sound (bounded_fresh setup_by_default)) }

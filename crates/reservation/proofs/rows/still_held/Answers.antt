@@ -16,7 +16,7 @@ row_below c = index_below c.loop-i-test.true (count_fits c.requires)
 pub bounds-held-i : goal.bounds-held-i
 bounds-held-i c = row_below (goal.at.bounds-held-i c).In-loop-i
 
-slot_below : (c : In-loop-i) → c.loop-i.auto < row_limit
+slot_below : (c : In-loop-i) → c.loop-i.kept < row_limit
 slot_below c = omega (arith, row_below c, c.loop-i.invariant.kept_few)
 
 pub loop-i-preserved : goal.loop-i-preserved
@@ -24,8 +24,8 @@ loop-i-preserved c =
     let inv = c.loop-i.invariant in
     let found = c.is_held.ensures in
     elim c.if-is_held.branch [
-        then-is_held w ↦ rw (w.1, w.2) (stayed_more inv c.loop-i-test.true found (count_fits c.requires) w.if-is_held.true)
-        | else-is_held w ↦ rw (w.1, w.2) (stayed_gone inv c.loop-i-test.true found w.if-is_held.false)
+        then-is_held w ↦ rw (w.rows-is, w.kept-is) (stayed_more inv c.loop-i-test.true found (count_fits c.requires) w.if-is_held.true)
+        | else-is_held w ↦ rw (w.rows-is, w.kept-is) (stayed_gone inv c.loop-i-test.true found w.if-is_held.false)
         ]
 
 pub loop-i-init : goal.loop-i-init

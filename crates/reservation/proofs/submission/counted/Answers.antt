@@ -3,18 +3,18 @@ use mathlib.Core.Logic.{⊎_elim}
 use borrow.Author.Tests.{leb-true, leb-false}
 use Rattle.reservation.proofs.Counted.{counts_in_range, number_low, number_high, many_tasks, many_messages}
 use Rattle.reservation.proofs.submission.counted.Goals as goal
-use Rattle.reservation.proofs.submission.counted.Goals.{else-tasks, then-tasks}
+use Rattle.reservation.proofs.submission.counted.Goals.{else-tasks-via-then-tasks+else-messages, else-tasks-via-else-tasks}
 
 pub returns-then-messages : goal.returns-then-messages
-returns-then-messages c = counts_in_range record { tasks_fit = c.if-tasks.true; messages_fit = leb-true _ _ c.if-messages.true-raw }
+returns-then-messages c = counts_in_range record { tasks_fit = c.if-tasks.true; messages_fit = c.if-messages.true }
 
 pub returns : goal.returns
 returns c =
     let low = c.if-number-lt1.false in
     let high = c.if-number-gt-LAST_JOB.false in
-    elim c.if-tasks.branch [
-        then-tasks w ↦ many_messages low high (leb-false _ _ w.1.left)
-        | else-tasks w ↦ many_tasks low high w.left
+    elim c.else-tasks.branch [
+        else-tasks-via-then-tasks+else-messages w ↦ many_messages low high w.if-messages.false
+        | else-tasks-via-else-tasks w ↦ many_tasks low high w.if-tasks.false
         ]
 
 pub returns-then-number-lt1 : goal.returns-then-number-lt1

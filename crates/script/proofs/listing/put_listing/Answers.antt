@@ -14,7 +14,7 @@ put_rows-requires c =
       status = c.args.status;
       timetable = c.requires.timetable;
       count_is = refl;
-      room = omega (arith, written.puts.next_is, written.short, c.put_heading-start.auto.0, c.requires.room);
+      room = omega (arith, written.puts.next_is, written.short, c.put_heading-start.auto.output, c.requires.room);
     }
 
 pub returns : goal.returns

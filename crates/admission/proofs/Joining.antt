@@ -7,7 +7,7 @@ use lib.ListN.{length, get_or}
 use Rattle.rules.specs.declared.Row.{Row}
 use Rattle.rules.specs.Codes.{holder_label}
 use Rattle.rules.specs.Placing.{no_row}
-use Rattle.rules.proofs.Sequences.{getD_mem}
+use Rattle.rules.proofs.Sequences.{get_or_mem}
 use Rattle.timeline.specs.declared.notes.Note.{Note}
 use Rattle.timeline.specs.RowLine.{spans_room, note_size, line_of, column, notes_of, GoesAt, AskInsert, InsertedAt}
 use Rattle.timeline.specs.Notes.{AskInsertNote, NoteInserted}
@@ -117,7 +117,7 @@ module _ {jobs₀ notes₀ own : List ℕ} {held count job last : ℕ} (ask : As
           (second : NoteInserted notes (held + i) entry.at note notes') where
         module _ {rows new : List Row} (joins : Joins own held count rows new) (carry : Carry new job) where
           carried : (row joins).job ≡ job
-          carried = carry (row joins) (getD_mem new i no_row (there joins))
+          carried = carry (row joins) (get_or_mem new i no_row (there joins))
 
           entry_is : entry ≡ entry_for entry.at (row joins)
           entry_is = rw read (joins.own_is.is i (there joins))

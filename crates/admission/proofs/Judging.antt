@@ -15,7 +15,7 @@ use Rattle.rules.specs.Words.{State, of_job}
 use Rattle.rules.specs.Placing.{no_row}
 use Rattle.rules.specs.Refusals.{submits, step}
 use Rattle.rules.specs.Bounds.{RowInRange}
-use Rattle.rules.proofs.Sequences.{by_test, by_less, clash, any_none, getD_mem}
+use Rattle.rules.proofs.Sequences.{by_test, by_less, clash, any_none, get_or_mem}
 use Rattle.rules.proofs.Bounds.{scheduling_figure}
 use Rattle.rules.proofs.Demand1.{demand_1}
 use Rattle.timeline.specs.RowLine.{most_own, row_end}
@@ -37,7 +37,7 @@ own_few {new = new} {own} own_is range =
     let long = own_is.long in
     let ends : get_or own (most_own * entry_size + 2) 0 ≡ row_end (get_or new most_own no_row) = ap (λ e. e.end) (own_is.is most_own more) in
     let none : get_or own (most_own * entry_size + 2) 0 ≡ 0 = get_or-eq_default own 0 (omega arith) in
-    let lasts = (range (get_or new most_own no_row) (getD_mem new most_own no_row more)).lasts in
+    let lasts = (range (get_or new most_own no_row) (get_or_mem new most_own no_row more)).lasts in
     absurd (omega arith))
     (λ most. most)
 

@@ -13,7 +13,7 @@ use Rattle.rules.specs.Words.{resource}
 use Rattle.rules.specs.Codes.{resource_number}
 use Rattle.rules.specs.Placing.{no_row}
 use Rattle.rules.specs.Bounds.{RowInRange}
-use Rattle.rules.proofs.Sequences.{getD_mem}
+use Rattle.rules.proofs.Sequences.{get_or_mem}
 use Rattle.timeline.specs.Timeline.{tick_room}
 use Rattle.timeline.specs.RowLine.{row_end}
 use Rattle.placement.specs.declared.own.Entry.{Entry}
@@ -62,7 +62,7 @@ module _ {own : List ℕ} {count : ℕ} where
           let there : i < length new = omega arith in
           let row = get_or new i no_row in
           let ends : entry.end ≡ row_end row = ap (λ e. e.end) (read ∙ own_is.is i there) in
-          let finish : entry.end % tick_room ≡ row.finish = ap (λ k. k % tick_room) ends ∙ finish_left s row (range row (getD_mem new i no_row there)) in
+          let finish : entry.end % tick_room ≡ row.finish = ap (λ k. k % tick_room) ends ∙ finish_left s row (range row (get_or_mem new i no_row there)) in
           rw (finishes_more new i there, most_more, ← so_far.is s rows new own_is n range, ← finish) later;
     }
 

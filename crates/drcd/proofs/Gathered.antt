@@ -17,7 +17,7 @@ use Rattle.rules.specs.declared.Setup.{Setup}
 use Rattle.rules.specs.Sequences.{cons_if, keep}
 use Rattle.rules.specs.Words.{messages_of}
 use Rattle.rules.specs.Placing.{placed, into}
-use Rattle.rules.proofs.Sequences.{by_less, keep_mem, keep_append, getD_mem}
+use Rattle.rules.proofs.Sequences.{by_less, keep_mem, keep_append, get_or_mem}
 use Rattle.figures.specs.Rows.{SenderIs, ReceiverIs, VolumeIs}
 use Rattle.figures.specs.declared.jobs.Layout.{Layout}
 use Rattle.drcd.specs.declared.inputs.Input.{Input}
@@ -116,7 +116,7 @@ module _ (j : Job) (t i : ℕ) (d : Message) (more : i < length (messages_of j))
   into_more same = rw (into_next, eq-eqb msg.receiver t same) refl
 
   into_among : msg.receiver ≡ t → Memᴰ msg (into j t)
-  into_among same = keep_mem (λ m. eqb m.receiver t) (getD_mem (messages_of j) i d more) (eq-eqb msg.receiver t same)
+  into_among same = keep_mem (λ m. eqb m.receiver t) (get_or_mem (messages_of j) i d more) (eq-eqb msg.receiver t same)
 
   first_more :
       {new : List Row} {inputs inputs' : List ℕ} {count : ℕ} {input : Input} → FirstInputs j new t i inputs count → msg.receiver ≡ t →

@@ -11,7 +11,7 @@ use Rattle.rules.specs.declared.Setup.{Setup}
 use Rattle.rules.specs.Words.{most_tasks, messages_of, task_of}
 use Rattle.rules.specs.Laws.{IsTask}
 use Rattle.rules.specs.Bounds.{Between}
-use Rattle.rules.proofs.Sequences.{getD_mem}
+use Rattle.rules.proofs.Sequences.{get_or_mem}
 use Rattle.rules.proofs.Order.{in_range_ends}
 use Rattle.texts.proofs.Figured.{tasks_within}
 use Rattle.figures.specs.Rows.{AskTaskFigure, AskMessageFigure, DeadlineIs, SenderIs, ReceiverIs}
@@ -46,7 +46,7 @@ module _ {s : Setup} {j : Job} {row : List ℕ} {layout : Layout} (is : JobIs s 
     pub message_ends : (none : Message) → IsTask j (get_or (messages_of j) i none).sender × IsTask j (get_or (messages_of j) i none).receiver
     message_ends none =
         in_range_ends s j is.range (get_or (messages_of j) i none)
-        (getD_mem (messages_of j) i none (let l = messages_listed in let m = message_below in omega arith))
+        (get_or_mem (messages_of j) i none (let l = messages_listed in let m = message_below in omega arith))
 
 -- What the functions that read the figures ask.
 

@@ -19,7 +19,7 @@ use Rattle.rules.specs.Words.{link, held_by, Hold, holds, messages_of, horizon, 
 use Rattle.rules.specs.Placing.{Ground, least_free, spans_on, transfer, message_booking, task_row, machine_for, crosses, into, release}
 use Rattle.rules.specs.Placing.{message_trials, all_arrived, costs}
 use Rattle.rules.specs.Bounds.{Between, largest_cost}
-use Rattle.rules.proofs.Sequences.{mem_keep, getD_mem}
+use Rattle.rules.proofs.Sequences.{mem_keep, get_or_mem}
 use Rattle.rules.proofs.Pairs.{Pairwise, pairwise_keep, pairwise_front}
 use Rattle.rules.proofs.Inputs.{Differ}
 use Rattle.rules.proofs.Order.{in_range_volume}
@@ -119,7 +119,7 @@ module _
     listed = let all = scene.inputs_are.all in omega arith
 
     incoming : Memᴰ msg msgs
-    incoming = getD_mem msgs i no_message listed
+    incoming = get_or_mem msgs i no_message listed
 
     first_more : take (suc i) msgs ≡ take i msgs ++ (msg ∷ [])
     first_more = take-suc msgs i no_message listed

@@ -18,7 +18,7 @@ use Rattle.rules.specs.declared.Setup.{Setup}
 use Rattle.rules.specs.Words.{held_by, hold_of, holds, row_limit, most_tasks, most_messages, messages_of, run_time}
 use Rattle.rules.specs.Placing.{on_rows, task_booking, message_booking, machine_for, into, crosses, trial_rows, try}
 use Rattle.rules.specs.Bounds.{Sound, Listed, task, message, RowInRange}
-use Rattle.rules.proofs.Sequences.{by_less, getD_mem, mem_keep, mem_map}
+use Rattle.rules.proofs.Sequences.{by_less, get_or_mem, mem_keep, mem_map}
 use Rattle.rules.proofs.Pairs.{pairwise_front, pairwise_across}
 use Rattle.rules.proofs.Resources.{holds_append}
 use Rattle.rules.proofs.Apart.{Apart, AllApart, shares_none_apart, apart_shares_none}
@@ -122,7 +122,7 @@ module _
 
   module _ {i : ℕ} (below : i < turn.inputs) where
     message_listed : Memᴰ (message_at i) (into j (turn.t + 1))
-    message_listed = getD_mem (into j (turn.t + 1)) i no_message (let all = k.scene.inputs_are.all in omega arith)
+    message_listed = get_or_mem (into j (turn.t + 1)) i no_message (let all = k.scene.inputs_are.all in omega arith)
 
     message_into : Memᴰ (message_at i) (messages_of j) × (eqb (message_at i).receiver (turn.t + 1) ≡ true)
     message_into = mem_keep (λ msg. eqb msg.receiver (turn.t + 1)) (messages_of j) message_listed

@@ -10,7 +10,7 @@ use Rattle.rules.specs.declared.Row.{Row}
 use Rattle.rules.specs.declared.Setup.{Setup}
 use Rattle.rules.specs.Words.{row_limit}
 use Rattle.rules.specs.Placing.{no_row}
-use Rattle.rules.proofs.Sequences.{getD_mem}
+use Rattle.rules.proofs.Sequences.{get_or_mem}
 use Rattle.timeline.specs.RowLine.{most_own, slots}
 use Rattle.placement.specs.Own.{entry_at, AskRow, RowIs}
 use Rattle.reservation.specs.Parts.{Joining, AskMore, MoreIs}
@@ -40,7 +40,7 @@ module _ {held : List Row} {count : ℕ} {own : List ℕ} {more job : ℕ} where
         let row = get_or ask.new i no_row in
         rw
         (ap (λ x. x.label) (join.own_is.is i new_below))
-        (label_below join.sound (join.in_range row (getD_mem ask.new i no_row new_below)).holder)
+        (label_below join.sound (join.in_range row (get_or_mem ask.new i no_row new_below)).holder)
 
   pub joined_none : Joined held count own more job held 0
   joined_none = record { within = omega arith; follows = λ s old new join. join.held_is ∙ ap (slots row_limit) (sym (append-nil old)) }
@@ -53,7 +53,7 @@ module _ {held : List Row} {count : ℕ} {own : List ℕ} {more job : ℕ} where
           λ s old new join.
           let there : i < length new = omega (arith, join.more_is) in
           let next = get_or new i no_row in
-          let listed = getD_mem new i no_row there in
+          let listed = get_or_mem new i no_row there in
           let same : row ≡ next = is s next join.sound (join.in_range next listed) (join.own_is.is i there) (join.one_job next listed) in
           let long = length-append old (take i new) in
           let front = length-take-le i new (omega arith) in

@@ -1,11 +1,9 @@
 -- The rows that leave with a withdrawal and with a clock move: whole jobs, or none if the call is refused.
-use mathlib.Core.Path.{◌≡◌, refl, sym, ap}
-use mathlib.Core.Bool.{Bool, false, not}
+use mathlib.Core.Path.{refl, sym, ap}
+use mathlib.Core.Bool.{false, not}
 use Prim.Native.Nat.{ℕ}
 use lib.Dec.{eqb}
-use Rattle.rules.specs.declared.Row.{Row}
 use Rattle.rules.specs.declared.Setup.{Setup}
-use Rattle.rules.specs.Sequences.{keep}
 use Rattle.rules.specs.Words.{State, of_job, view}
 use Rattle.rules.specs.Withdrawing.{remove, withdraw, ended, advance}
 use Rattle.rules.specs.Refusals.{withdraws, advances, withdraw_answer, advance_answer, step}

@@ -16,7 +16,7 @@ use Rattle.rules.specs.Bounds.{RowInRange}
 use Rattle.rules.specs.Refusals.{look}
 use Rattle.rules.specs.Laws.{IsMachine, RunsAt}
 use Rattle.rules.specs.Demands.{NoSharedTick, SeenBy}
-use Rattle.rules.proofs.Sequences.{by_less, mem_getD, getD_mem, mem_map}
+use Rattle.rules.proofs.Sequences.{by_less, mem_get_or, get_or_mem, mem_map}
 use Rattle.rules.proofs.Apart.{shares_none_apart}
 use Rattle.rules.proofs.Demand1.{demand_1_look}
 use Rattle.timeline.specs.declared.notes.Note.{Note}
@@ -64,8 +64,8 @@ row_runs {m} row has early takes begun later =
 one_runs :
     (rows : List Row) {m tick : ℕ} → NoSharedTick rows → {a b : Row} → Memᴰ a rows → Memᴰ b rows → RunsAt m tick a → RunsAt m tick b → a ≡ b
 one_runs rows {m} {tick} apart {a} {b} a_listed b_listed a_runs b_runs =
-    let i = mem_getD no_row a_listed in
-    let k = mem_getD no_row b_listed in
+    let i = mem_get_or no_row a_listed in
+    let k = mem_get_or no_row b_listed in
     let here : RunsAt m tick (get_or rows i.0 no_row) = rw i.2 a_runs in
     let there : RunsAt m tick (get_or rows k.0 no_row) = rw k.2 b_runs in
     by_less
@@ -109,7 +109,7 @@ module _ {r : Register} (valid : Valid r) where
     on_line = omega (arith, line_long (held valid), held_length valid)
 
     its_row_held : Memᴰ its_row (held valid)
-    its_row_held = line_from (held valid) (getD_mem (line_of (held valid)) at no_row on_line)
+    its_row_held = line_from (held valid) (get_or_mem (line_of (held valid)) at no_row on_line)
 
     its_row_range : RowInRange r.setup its_row
     its_row_range = valid.bounded.rows its_row its_row_held

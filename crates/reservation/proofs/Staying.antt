@@ -13,7 +13,7 @@ use Rattle.rules.specs.declared.Row.{Row}
 use Rattle.rules.specs.Sequences.{keep, cons_if, any_of}
 use Rattle.rules.specs.Words.{of_job, row_limit}
 use Rattle.rules.specs.Placing.{no_row}
-use Rattle.rules.proofs.Sequences.{by_test, any_witness, any_mem, keep_mem, mem_keep, keep_append, length_keep, getD_mem}
+use Rattle.rules.proofs.Sequences.{by_test, any_witness, any_mem, keep_mem, mem_keep, keep_append, length_keep, get_or_mem}
 use Rattle.timeline.specs.RowLine.{line_of, slots}
 use Rattle.timeline.proofs.Line.{line_long}
 use Rattle.timeline.proofs.Columns.{column_long}
@@ -85,7 +85,7 @@ module _ {held : List Row} {count : ℕ} {jobs : List ℕ} {left : ℕ} where
           is (line_of here) (line_long here ∙ sym staying.left_is) staying.jobs_are
           ∙ any_line (of_job (get_or held i no_row).job) here
           ∙ ap (λ row. any_of (of_job row.job) here) row_there
-          ∙ stays_with_its_job leaving all staying.whole (getD_mem all i no_row there)
+          ∙ stays_with_its_job leaving all staying.whole (get_or_mem all i no_row there)
 
       one_more : stay leaving (take (i + 1) all) ≡ stay leaving (take i all) ++ cons_if found (get_or all i no_row) []
       one_more =

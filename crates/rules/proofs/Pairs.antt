@@ -8,7 +8,7 @@ use Prim.Native.Nat.{ℕ, zero, suc, ◌<◌}
 use native.Mathlib.Omega.{arith}
 use lib.ListN.{length, get_or}
 use Rattle.rules.specs.Sequences.{keep, cons_if}
-use Rattle.rules.proofs.Sequences.{mem_keep, mem_getD, getD_mem, mem_map, map_mem}
+use Rattle.rules.proofs.Sequences.{mem_keep, mem_get_or, get_or_mem, mem_map, map_mem}
 
 module _ {A : Type 0} (R : A → A → Type 0) where
   pub data Pairwise : List A → Type 0 where
@@ -54,14 +54,14 @@ module _ {A : Type 0} (R : A → A → Type 0) where
   pub pairwise_at : {l : List A} → Pairwise l → (d : A) (i k : ℕ) → i < k → k < length l → R (get_or l i d) (get_or l k d)
   pairwise_at end d i k h b = absurd (omega arith)
   pairwise_at (more f rest) d i zero h b = absurd (omega arith)
-  pairwise_at (more {xs = xs} f rest) d zero (suc k) h b = f (get_or xs k d) (getD_mem xs k d (omega arith))
+  pairwise_at (more {xs = xs} f rest) d zero (suc k) h b = f (get_or xs k d) (get_or_mem xs k d (omega arith))
   pairwise_at (more f rest) d (suc i) (suc k) h b = pairwise_at rest d i k (omega arith) (omega arith)
 
   pub at_pairwise : (l : List A) (d : A) → ((i k : ℕ) → i < k → k < length l → R (get_or l i d) (get_or l k d)) → Pairwise l
   at_pairwise [] d h = end
   at_pairwise (x ∷ xs) d h =
       more {x = x} {xs = xs}
-      (λ y m. let r = mem_getD d m in subst (R x) r.2 (h zero (suc r.0) (omega arith) (let b = r.1 in omega arith)))
+      (λ y m. let r = mem_get_or d m in subst (R x) r.2 (h zero (suc r.0) (omega arith) (let b = r.1 in omega arith)))
       (at_pairwise xs d (λ i k a b. h (suc i) (suc k) (omega arith) (omega arith)))
 
 -- what holds of the pairs of a list that is made of another one, element by element, holds of the pairs of that one, and back

@@ -205,14 +205,14 @@ module _ {A : Type 0} where
       go false h = omega arith
 
   -- an element stands at some position, and what stands at a position is an element
-  pub mem_getD : {x : A} {l : List A} (d : A) → Memᴰ x l → (i : ℕ) × (i < length l) × (get_or l i d ≡ x)
-  mem_getD d (Memᴰ.head e) = (zero, omega arith, sym e)
-  mem_getD d (Memᴰ.tail m) = let r = mem_getD d m in (suc r.0, (let h = r.1 in omega arith), r.2)
+  pub mem_get_or : {x : A} {l : List A} (d : A) → Memᴰ x l → (i : ℕ) × (i < length l) × (get_or l i d ≡ x)
+  mem_get_or d (Memᴰ.head e) = (zero, omega arith, sym e)
+  mem_get_or d (Memᴰ.tail m) = let r = mem_get_or d m in (suc r.0, (let h = r.1 in omega arith), r.2)
 
-  pub getD_mem : (l : List A) (i : ℕ) (d : A) → i < length l → Memᴰ (get_or l i d) l
-  getD_mem [] i d h = absurd (omega arith)
-  getD_mem (x ∷ xs) zero d h = Memᴰ.head refl
-  getD_mem (x ∷ xs) (suc i) d h = Memᴰ.tail (getD_mem xs i d (omega arith))
+  pub get_or_mem : (l : List A) (i : ℕ) (d : A) → i < length l → Memᴰ (get_or l i d) l
+  get_or_mem [] i d h = absurd (omega arith)
+  get_or_mem (x ∷ xs) zero d h = Memᴰ.head refl
+  get_or_mem (x ∷ xs) (suc i) d h = Memᴰ.tail (get_or_mem xs i d (omega arith))
 
 -- two functions that agree on every one of a list
 pub map_same : {A B : Type 0} (f g : A → B) (l : List A) → ((x : A) → Memᴰ x l → f x ≡ g x) → map f l ≡ map g l

@@ -6,11 +6,6 @@ use Rattle.rules.specs.declared.Task.{Task}
 use Rattle.rules.specs.declared.Message.{Message}
 use Rattle.rules.specs.declared.Job.{Job}
 use Rattle.rules.specs.declared.Seen.TheVariants.{Idle, Booked, NoMachine}
-use Rattle.rules.specs.Sequences
-use Rattle.rules.specs.Words
-use Rattle.rules.specs.Placing
-use Rattle.rules.specs.Withdrawing
-use Rattle.rules.specs.Refusals
 use Rattle.rules.specs.Sequences.{numbers}
 use Rattle.rules.specs.Words.{State, fresh}
 use Rattle.rules.specs.Placing.{costs}

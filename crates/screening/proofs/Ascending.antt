@@ -14,7 +14,7 @@ use Rattle.rules.specs.declared.Message.{Message}
 use Rattle.rules.specs.Sequences.{any_of, precedes}
 use Rattle.rules.specs.Words.{largest_volume, messages_of}
 use Rattle.rules.specs.Refusals.{outside, message_out_of_range, message_order, ascending, bad_messages}
-use Rattle.rules.proofs.Sequences.{by_test, clash, or_left, or_right, or_false, and_true, and_both, any_append, any_mem, getD_mem}
+use Rattle.rules.proofs.Sequences.{by_test, clash, or_left, or_right, or_false, and_true, and_both, any_append, any_mem, get_or_mem}
 use Rattle.rules.proofs.Order.{in_between}
 use Rattle.rules.proofs.Choice.{lower_precedes}
 use Rattle.rules.proofs.Indexed.{no_message}
@@ -118,7 +118,7 @@ module _ {j : Job} {last : Message} {i : ℕ} (sofar : Ascends j last i) where
         (or_left
         _
         (not (ascending (map message_order (messages_of j))))
-        (any_mem (message_out_of_range j) (getD_mem (messages_of j) i no_message more) e))
+        (any_mem (message_out_of_range j) (get_or_mem (messages_of j) i no_message more) e))
 
     module _ (good : message_out_of_range j next ≡ false) where
       next_misplaced : precedes (message_order last) (message_order next) ≡ false → true ≡ bad_messages j

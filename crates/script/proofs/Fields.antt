@@ -1,14 +1,13 @@
 -- Fields written one after the other, and the room that they take.
 use mathlib.Core.Path.{◌≡◌, refl, ◌∙◌}
 use mathlib.Core.List.{List, [], ◌++◌, append_assoc}
-use Prim.Native.Nat.{ℕ, ◌+◌, ◌-◌, ◌^◌, ◌≤◌}
+use Prim.Native.Nat.{ℕ, ◌+◌, ◌≤◌}
 use native.Mathlib.Omega.{arith}
 use lib.ListN.{length, length-append}
-use Rattle.lines.specs.Figures.{digits_within, decimal, field}
-use Rattle.lines.specs.Parts.{word_digits}
+use Rattle.lines.specs.Figures.{field}
 use Rattle.lines.specs.Put.{Puts}
 use Rattle.script.specs.Parts.{field_room, PutsField, PutsAtMost}
-use Rattle.lines.proofs.Put.{puts_then, puts_long, put_none, field_length}
+use Rattle.lines.proofs.Put.{puts_then, puts_long, put_none}
 
 -- bytes written from a place on, no more than so many
 pub record PutWithin (old : List ℕ) (at : ℕ) (bytes new : List ℕ) (next most : ℕ) : Type 0 where

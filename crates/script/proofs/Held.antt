@@ -11,7 +11,7 @@ use Rattle.rules.specs.Words.{State, held_by, row_limit, fresh, setup_by_default
 use Rattle.rules.specs.Codes.{holder_label}
 use Rattle.rules.specs.Placing.{no_row}
 use Rattle.rules.specs.Bounds.{RowInRange}
-use Rattle.rules.proofs.Sequences.{getD_mem}
+use Rattle.rules.proofs.Sequences.{get_or_mem}
 use Rattle.rules.proofs.Bounds.{bounded_fresh}
 use Rattle.rules.proofs.DefaultTables.{default_sound}
 use Rattle.timeline.specs.declared.notes.Note.{Note}
@@ -48,7 +48,7 @@ module _ {s : Setup} {st : State} {begins ends jobs notes : List ℕ} {status : 
     on_line = omega (arith, count_is)
 
     in_range : RowInRange s row
-    in_range = of.bounded.rows row (line_from st.rows (getD_mem line k no_row on_line))
+    in_range = of.bounded.rows row (line_from st.rows (get_or_mem line k no_row on_line))
 
     entry_is : {note : Note} → note ≡ nth_note notes k → entry_there begins ends note k ≡ entry_for 0 row
     entry_is is =

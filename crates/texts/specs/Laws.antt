@@ -11,7 +11,7 @@ use Rattle.lines.specs.Readings.{number_of_reading, reading_place}
 use Rattle.lines.specs.Laws.{Stands}
 use Rattle.texts.specs.Forms.{Form, done, ask, read, written, fills, left}
 use Rattle.lines.specs.Lines.{takes}
-use Rattle.texts.specs.JobText.{job_form, task_said, message_said, task_of_zeros, message_of_zeros, head_size, task_size, message_size, messages_at, job_said}
+use Rattle.texts.specs.JobText.{job_form, task_said, message_said, message_of_zeros, head_size, task_size, message_size, messages_at, job_said}
 use Rattle.texts.specs.JobText.{job_figures, job_text, writable, written_job, blanked}
 use Rattle.texts.specs.declared.forms.WriterAnswer.{WriterAnswer}
 use Rattle.texts.specs.declared.job.JobRead.{JobRead}

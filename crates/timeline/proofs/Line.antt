@@ -14,7 +14,7 @@ use Rattle.rules.specs.declared.Row.{Row}
 use Rattle.rules.specs.Words.{Hold, hold_of, holds}
 use Rattle.rules.specs.Codes.{resource_number}
 use Rattle.rules.specs.Placing.{no_row}
-use Rattle.rules.proofs.Sequences.{by_less, by_test, mem_getD, getD_mem, mem_map, map_mem}
+use Rattle.rules.proofs.Sequences.{by_less, by_test, mem_get_or, get_or_mem, mem_map, map_mem}
 use Rattle.rules.proofs.Pairs.{Pairwise, end, more, pairwise_at, pairwise_map}
 use Rattle.rules.proofs.Apart.{Apart, AllApart}
 use Rattle.timeline.specs.Timeline.{begin_of, end_of, Drawable, Drawn, FirstAfter}
@@ -222,7 +222,7 @@ module _
   end_at i h = column_at row_end line i (omega (arith, line_long rows))
 
   row_there : (i : ℕ) → i < length rows → Memᴰ (get_or line i no_row) rows
-  row_there i h = line_from rows (getD_mem line i no_row (omega (arith, line_long rows)))
+  row_there i h = line_from rows (get_or_mem line i no_row (omega (arith, line_long rows)))
 
   ranged : Pairwise (Ranged (λ a b. Apart (hold_of a) (hold_of b))) line
   ranged = line_ranged _ (λ a b rel alike tick p q. rel (sym alike) tick q p) (pairwise_map Apart hold_of rows apart)
@@ -246,7 +246,7 @@ module _
     there =
         λ h m.
         let made = map_mem hold_of rows m in
-        let place = mem_getD no_row (line_has rows made.1) in
+        let place = mem_get_or no_row (line_has rows made.1) in
         let within : place.0 < length rows = omega (arith, place.1, line_long rows) in
         let same : hold_of (get_or line place.0 no_row) ≡ h = ap hold_of place.2 ∙ sym made.2 in (
           place.0,

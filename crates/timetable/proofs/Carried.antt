@@ -12,7 +12,7 @@ use Rattle.rules.specs.declared.Row.{Row}
 use Rattle.rules.specs.Words.{of_job}
 use Rattle.rules.specs.Sequences.{any_of}
 use Rattle.rules.specs.Placing.{no_row}
-use Rattle.rules.proofs.Sequences.{by_test, clash, any_mem, none_any, mem_getD, getD_mem, and_both}
+use Rattle.rules.proofs.Sequences.{by_test, clash, any_mem, none_any, mem_get_or, get_or_mem, and_both}
 use Rattle.timeline.specs.Timeline.{tick_room}
 use Rattle.timeline.specs.RowLine.{row_begin, column}
 use Rattle.timeline.proofs.Columns.{column_at}
@@ -36,11 +36,11 @@ start_at line is k h fits =
 -- By position.
 
 some_there : (p : Row → Bool) (line : List Row) (k : ℕ) → k < length line → p (get_or line k no_row) ≡ true → any_of p line ≡ true
-some_there p line k h e = any_mem p (getD_mem line k no_row h) e
+some_there p line k h e = any_mem p (get_or_mem line k no_row h) e
 
 none_there : (p : Row → Bool) (line : List Row) → ((k : ℕ) → k < length line → p (get_or line k no_row) ≡ false) → any_of p line ≡ false
 none_there p line none =
-    none_any p line (λ row m. let place = mem_getD no_row m in ap p (sym place.2) ∙ none place.0 place.1)
+    none_any p line (λ row m. let place = mem_get_or no_row m in ap p (sym place.2) ∙ none place.0 place.1)
 
 -- The first that carries a number: none of the first i does.
 pub record NoneCarries (jobs : List ℕ) (count job i : ℕ) : Type 0 where

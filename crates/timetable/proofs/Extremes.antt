@@ -7,7 +7,7 @@ use native.Mathlib.Omega.{arith}
 use lib.ListN.{length, get_or}
 use Rattle.rules.specs.declared.Row.{Row}
 use Rattle.rules.specs.Placing.{no_row}
-use Rattle.rules.proofs.Sequences.{mem_getD, getD_mem}
+use Rattle.rules.proofs.Sequences.{mem_get_or, get_or_mem}
 use Rattle.timetable.specs.Derived.{least_of, never}
 use Rattle.timetable.proofs.Lists.{one_more}
 
@@ -72,13 +72,13 @@ module _ {figure : ℕ → ℕ} {count : ℕ} where
         line
         sofar.at_most
         (λ row m.
-        let place = mem_getD no_row m in
+        let place = mem_get_or no_row m in
         omega (arith, sofar.low place.0 (omega (arith, place.1)), figures place.0 place.1, ap f place.2))
         in
         let least : least_of never (map f line) ≤ soonest =
         sofar.above
         (least_of never (map f line))
         (least_none never f line)
-        (λ k h. omega (arith, figures k (omega arith), least_low never f (getD_mem line k no_row (omega arith))))
+        (λ k h. omega (arith, figures k (omega arith), least_low never f (get_or_mem line k no_row (omega arith))))
         in
         omega arith

@@ -13,7 +13,7 @@ use Rattle.rules.specs.Sequences.{any_of}
 use Rattle.rules.specs.Words.{State, of_job, largest_number}
 use Rattle.rules.specs.Placing.{no_row}
 use Rattle.rules.specs.Refusals.{step, withdraws, refusal}
-use Rattle.rules.proofs.Sequences.{any_mem, none_any, mem_getD, getD_mem}
+use Rattle.rules.proofs.Sequences.{any_mem, none_any, mem_get_or, get_or_mem}
 use Rattle.timeline.specs.RowLine.{line_of}
 use Rattle.timeline.proofs.Line.{line_has, line_from}
 use Rattle.timetable.specs.declared.Status.{Status}
@@ -45,7 +45,7 @@ module _ {s : Setup} {st : State} {b e j n : List ℕ} {status : Status} (is : T
         (of_job number)
         st.rows
         (λ row m.
-        let at = mem_getD no_row (line_has st.rows m) in
+        let at = mem_get_or no_row (line_has st.rows m) in
         ne_eqb
         row.job
         number
@@ -60,7 +60,7 @@ module _ {s : Setup} {st : State} {b e j n : List ℕ} {status : Status} (is : T
         let on_line : from < length line = omega (arith, count_is is) in
         any_mem
         (of_job number)
-        (line_from st.rows (getD_mem line from no_row on_line))
+        (line_from st.rows (get_or_mem line from no_row on_line))
         (eq-eqb _ number (sym (job_at line is.jobs_are from on_line) ∙ place.here there))
 
   begun_is : (number : ℕ) {found : Bool} → BegunIs j b status.count number status.clock found → any_of (begun st number) st.rows ≡ found
@@ -73,7 +73,7 @@ module _ {s : Setup} {st : State} {b e j n : List ℕ} {status : Status} (is : T
       (count_is is)
       (λ i h.
       let there : i < length line = omega (arith, count_is is) in
-      let ranged = is.bounded.rows _ (line_from st.rows (getD_mem line i no_row there)) in
+      let ranged = is.bounded.rows _ (line_from st.rows (get_or_mem line i no_row there)) in
       omega (arith, ranged.lasts, ranged.ends))
       is.jobs_are
       is.spans.begins_are)

@@ -15,7 +15,7 @@ use Rattle.rules.specs.Placing.{no_row, costs}
 use Rattle.rules.specs.Bounds.{Bounded}
 use Rattle.rules.specs.Withdrawing.{remove, withdraw, ended, advance}
 use Rattle.rules.specs.Refusals.{Call, withdraws, advances}
-use Rattle.rules.proofs.Sequences.{getD_mem, keep_all, keep_none, keep_same}
+use Rattle.rules.proofs.Sequences.{get_or_mem, keep_all, keep_none, keep_same}
 use Rattle.rules.proofs.Bounds.{bounded_step}
 use Rattle.timeline.specs.declared.removal.Left.{Left}
 use Rattle.timeline.specs.RowLine.{spans_room, row_begin, row_end, line_of, column, notes_of, note_size, Says}
@@ -98,7 +98,7 @@ module _ {s : Setup} {st : State} {b e j n : List ℕ} {status : Status} (is : T
               arith,
               ap (λ l. get_or l (i * note_size + 1) 0) is.notes_are,
               ap (λ note. note.cost) (note_stands (last_finish st.rows) line i there),
-              (is.bounded.rows row (line_from st.rows (getD_mem line i no_row there))).cost,
+              (is.bounded.rows row (line_from st.rows (get_or_mem line i no_row there))).cost,
             );
       }
 

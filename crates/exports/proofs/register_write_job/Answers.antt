@@ -1,5 +1,4 @@
 -- `exports::register_write_job` meets its contract: the figures are all that the slice holds, and the default table has as many machines as the code says.
-use borrow.Author.Rules.{rules}
 use Rattle.rules.specs.Words.{setup_by_default}
 use Rattle.texts.specs.Reader.{default_machines}
 use Rattle.texts.proofs.JobWriting.{whole_written}

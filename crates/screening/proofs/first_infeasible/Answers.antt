@@ -1,12 +1,8 @@
 -- `screening::first_infeasible` meets its contract: none of the tasks passed is infeasible.
-use Prim.Native.Nat.{◌-◌}
 use native.Mathlib.Omega.{arith}
-use Rattle.rules.specs.Refusals.{infeasible}
-use Rattle.screening.proofs.Ranged.{NoneOf, none_first}
+use Rattle.screening.proofs.Ranged.{none_first}
 use Rattle.screening.proofs.Feasible.{task_feasible, first_found, none_found}
 use Rattle.screening.proofs.first_infeasible.Goals as goal
-
--- The stops that the proof goes back to.
 
 pub infeasible-requires : goal.infeasible-requires
 infeasible-requires c = record { ask = c.requires; listed = c.loop-t-test.true }

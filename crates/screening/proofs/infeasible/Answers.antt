@@ -1,11 +1,8 @@
 -- `screening::infeasible` meets its contract: none of the machines passed ends in time.
-use Prim.Native.Nat.{◌-◌}
 use native.Mathlib.Omega.{arith}
-use Rattle.screening.proofs.Ranged.{task_asked, run_asked, NoneOf, none_first}
-use Rattle.screening.proofs.Feasible.{in_time, task_listed, run_within, next_unable, next_late, next_ends, all_late}
+use Rattle.screening.proofs.Ranged.{task_asked, run_asked, none_first}
+use Rattle.screening.proofs.Feasible.{task_listed, run_within, next_unable, next_late, next_ends, all_late}
 use Rattle.screening.proofs.infeasible.Goals as goal
-
--- The stops that the proof goes back to.
 
 pub run_of-run-requires : goal.run_of-run-requires
 run_of-run-requires c = run_asked (task_listed c.requires) c.loop-m-test.true

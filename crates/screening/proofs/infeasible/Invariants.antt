@@ -1,7 +1,6 @@
 use Prim.Native.Nat.{◌-◌}
-use native.Mathlib.Omega.{arith}
-use Rattle.screening.proofs.Ranged.{task_asked, run_asked, NoneOf, none_first}
-use Rattle.screening.proofs.Feasible.{in_time, task_listed, run_within, next_unable, next_late, next_ends, all_late}
+use Rattle.screening.proofs.Ranged.{NoneOf}
+use Rattle.screening.proofs.Feasible.{in_time}
 use Rattle.screening.proofs.infeasible.Given as goal
 
 abbrev pub invariant-loop-m : goal.invariant-loop-m

@@ -1,7 +1,6 @@
 -- `screening::screened` meets its contract: each way out is the first test that refuses.
 use mathlib.Core.Path.{◌≡◌}
 use mathlib.Core.Bool.{false}
-use borrow.Author.Rules.{rules}
 use Rattle.rules.specs.Words.{largest_number}
 use Rattle.rules.specs.Refusals.{outside}
 use Rattle.screening.specs.Screens.{WithJob}
@@ -9,10 +8,7 @@ use Rattle.screening.proofs.Firsts.{number_known, screened_0, screened_1, screen
 use Rattle.screening.proofs.screened.Goals as goal
 use Rattle.screening.proofs.screened.Goals.{Else-number_outside}
 
--- The stops that the proof goes back to.
-
 -- the number is in range behind the first test
-
 number_inside : (c : Else-number_outside) →
     let args = c.args in
     WithJob args.row.now args.layout (λ s j. outside 1 largest_number j.number ≡ false)

@@ -1,11 +1,8 @@
 -- `script::put_refusal` meets its contract: the refusal's field, then the listing.
 use native.Mathlib.Omega.{arith}
-use borrow.Author.Rules.{rules}
 use Rattle.lines.proofs.Put.{puts_then}
 use Rattle.script.specs.Replies.{stop_line}
 use Rattle.script.proofs.put_refusal.Goals as goal
-
--- The stops: the start, and the refusal's field.
 
 pub returns : goal.returns
 unfolding stop_line

@@ -1,11 +1,8 @@
 -- `script::put_too_long` meets its contract: the refusal of a fresh register.
 use native.Mathlib.Omega.{arith}
-use borrow.Author.Rules.{rules}
 use Rattle.rules.specs.Words.{fresh, setup_by_default}
 use Rattle.script.proofs.Held.{fresh_timetable}
 use Rattle.script.proofs.put_too_long.Goals as goal
-
--- The stop: the start.
 
 pub put_refusal-requires : goal.put_refusal-requires
 put_refusal-requires c = record {

@@ -1,10 +1,8 @@
 -- `script::run_calls` meets its contract: in a turn an act is read, called and answered.
 use mathlib.Core.Path.{refl, sym, ◌∙◌, subst}
 use mathlib.Core.List.{List}
-use Prim.Native.Nat.{ℕ, ◌-◌}
+use Prim.Native.Nat.{ℕ}
 use native.Mathlib.Omega.{arith}
-use lib.ListN.{length}
-use borrow.Author.Rules.{rules}
 use Rattle.rules.specs.Words.{setup_by_default}
 use Rattle.rules.proofs.DefaultTables.{default_sound}
 use Rattle.texts.specs.Reader.{default_machines}
@@ -16,12 +14,10 @@ use Rattle.script.specs.declared.acts.ActRead.TheVariants.{Called}
 use Rattle.script.specs.Acts.{act}
 use Rattle.script.specs.Parts.{ActSays}
 use Rattle.timetable.proofs.Removed.{timetable_long}
-use Rattle.script.proofs.Running.{Running, running_none, ending_room, running_asked, running_ends, running_room, running_stops, running_less}
+use Rattle.script.proofs.Running.{running_none, ending_room, running_asked, running_ends, running_room, running_stops, running_less}
 use Rattle.script.proofs.Running.{running_calls, running_called}
 use Rattle.script.proofs.run_calls.Goals as goal
 use Rattle.script.proofs.run_calls.Goals.{After-asking, At-loop-at, In-Called}
-
--- The stops: the start and the table, and in a turn its test, the act read, and the call.
 
 table_is : (c : At-loop-at) → TableOf setup_by_default c.table_figures-table.result
 table_is c =
@@ -40,7 +36,6 @@ says : (c : In-Called) →
 says c = subst (ActSays _ _) c.in-Called.is c.next_act-act.ensures.says
 
 -- the columns have their lengths
-
 long : (c : At-loop-at) → Long c.loop-at.begins c.loop-at.ends c.loop-at.jobs c.loop-at.notes
 long c = timetable_long c.loop-at.invariant.timetable
 

@@ -1,11 +1,8 @@
 -- `tally::counted_of` meets its contract: each way out is one case of `counted`.
 use mathlib.Core.Path.{refl}
-use borrow.Author.Rules.{rules}
 use borrow.Author.Tests.{eq-eqb, ne_eqb}
 use Rattle.tally.specs.Tallies.{most_counted, counted}
 use Rattle.tally.proofs.counted_of.Goals as goal
-
--- The stops that the proof goes back to.
 
 pub returns-then-t-eq-MOST_COUNTED : goal.returns-then-t-eq-MOST_COUNTED
 unfolding counted

@@ -1,10 +1,7 @@
 -- `tally::guarantee_ratio` meets its contract: each way out is one case of `RatioIs`.
 use mathlib.Core.Path.{refl}
-use borrow.Author.Rules.{rules}
 use borrow.Author.Tests.{eq-eqb, ne_eqb, lt-ltb, le-ltb}
 use Rattle.tally.proofs.guarantee_ratio.Goals as goal
-
--- The stops that the proof goes back to.
 
 pub returns-then-t-eq0 : goal.returns-then-t-eq0
 returns-then-t-eq0 c =

@@ -1,7 +1,6 @@
 -- `admission::submission::join` meets its contract: the first i of the own rows have joined the numbers and the notes.
-use Prim.Native.Nat.{◌-◌}
 use native.Mathlib.Omega.{arith}
-use Rattle.admission.proofs.Joining.{Joining, joining_none, joining_more, joining_all, job_asked, note_asked}
+use Rattle.admission.proofs.Joining.{joining_none, joining_more, joining_all, job_asked, note_asked}
 use Rattle.admission.proofs.submission.join.Goals as goal
 
 pub entry_at-entry-requires : goal.entry_at-entry-requires

@@ -1,6 +1,5 @@
 use Prim.Native.Nat.{◌-◌}
-use native.Mathlib.Omega.{arith}
-use Rattle.admission.proofs.Joining.{Joining, joining_none, joining_more, joining_all, job_asked, note_asked}
+use Rattle.admission.proofs.Joining.{Joining}
 use Rattle.admission.proofs.submission.join.Given as goal
 
 abbrev pub invariant-loop-i : goal.invariant-loop-i

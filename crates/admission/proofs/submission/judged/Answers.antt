@@ -1,10 +1,7 @@
 -- `admission::submission::judged` meets its contract: what placing found, settled, and taken off again if it is refused.
 use native.Mathlib.Omega.{arith}
-use borrow.Author.Rules.{rules}
 use Rattle.admission.proofs.Judging.{base_fits, place_asked, settle_asked, undo_asked_of, judged_accepted, judged_refused}
 use Rattle.admission.proofs.submission.judged.Goals as goal
-
--- The stops that the proof goes back to.
 
 pub overflow_add-base : goal.overflow_add-base
 overflow_add-base c = omega (arith, base_fits c.requires.judging c.scheduling_of.ensures)

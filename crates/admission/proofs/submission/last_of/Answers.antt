@@ -1,8 +1,6 @@
 -- `admission::submission::last_of` meets its contract: the last finish of the first i of the own rows.
-use mathlib.Core.Logic.{⊎_elim}
-use Prim.Native.Nat.{◌-◌}
 use native.Mathlib.Omega.{arith}
-use Rattle.admission.proofs.LastFinish.{LastSoFar, last_none, last_more, last_all}
+use Rattle.admission.proofs.LastFinish.{last_none, last_more, last_all}
 use Rattle.admission.proofs.submission.last_of.Goals as goal
 use Rattle.admission.proofs.submission.last_of.Goals.{else-last-finish, then-last-finish}
 
@@ -17,9 +15,9 @@ loop-i-preserved c =
     c.loop-i-test.true
     c.entry_at-entry.ensures
     (elim c.if-last-finish.branch [
-        then-last-finish w ↦ omega arith
-        | else-last-finish w ↦ omega arith
-        ])
+      | then-last-finish w ↦ omega arith
+      | else-last-finish w ↦ omega arith
+    ])
 
 pub returns : goal.returns
 returns c = last_all c.loop-i.invariant c.loop-i-test.false

@@ -1,7 +1,5 @@
-use mathlib.Core.Logic.{⊎_elim}
 use Prim.Native.Nat.{◌-◌}
-use native.Mathlib.Omega.{arith}
-use Rattle.admission.proofs.LastFinish.{LastSoFar, last_none, last_more, last_all}
+use Rattle.admission.proofs.LastFinish.{LastSoFar}
 use Rattle.admission.proofs.submission.last_of.Given as goal
 
 abbrev pub invariant-loop-i : goal.invariant-loop-i

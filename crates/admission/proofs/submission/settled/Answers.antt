@@ -1,5 +1,4 @@
 -- `admission::submission::settled` meets its contract: late, too many rows, or admitted.
-use borrow.Author.Rules.{rules}
 use Rattle.admission.proofs.Settling.{settled_7, settled_8, settled_0}
 use Rattle.admission.proofs.submission.settled.Goals as goal
 

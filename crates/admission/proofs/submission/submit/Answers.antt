@@ -1,14 +1,9 @@
 -- `admission::submission::submit` meets its contract: refused by the tests or after placing, or the new rows have joined the columns.
 use mathlib.Core.Path.{refl}
 use native.Mathlib.Omega.{arith}
-use borrow.Author.Rules.{rules}
 use Rattle.admission.proofs.Submitted.{tested_asked, early_refused, judged_asked, late_refused, rows_fit, cost_fits, joins_asked, number_fits, accepted_submit}
 use Rattle.admission.proofs.Submitted.{submitted_long}
 use Rattle.admission.proofs.submission.submit.Goals as goal
-
--- The stops that the proof goes back to.
-
--- after the judgement: its answer is known to be refused or not
 
 pub tested-early-requires : goal.tested-early-requires
 tested-early-requires c = tested_asked c.requires
@@ -45,8 +40,6 @@ pub returns : goal.returns
 returns c =
     accepted_submit c.requires c.tested-early.ensures c.if-early-ne0.false c.judged-answer.ensures c.if-answer-ne0.false
     c.last_of-last.ensures c.number_of.ensures c.join.ensures _ c.earlier.ensures
-
--- The submission that an answer comes of.
 
 pub shape_of-jobs-then-early-ne0 : goal.shape_of-jobs-then-early-ne0
 shape_of-jobs-then-early-ne0 c = refl

@@ -1,14 +1,10 @@
 -- `admission::submission::tested` meets its contract: each way out is the first test that refuses.
 use native.Mathlib.Omega.{arith}
-use borrow.Author.Rules.{rules}
 use Rattle.admission.proofs.Testing.{LaidFor, row_asked, laid_for, layout_asked, tested_early, number_narrow, first_asked, tested_5, tested_6, tested_0}
 use Rattle.admission.proofs.submission.tested.Goals as goal
 use Rattle.admission.proofs.submission.tested.Goals.{After-layout_of-layout}
 
--- The stops that the proof goes back to.
-
 -- the layout is that of every job that the row is of
-
 laid : (c : After-layout_of-layout) → LaidFor c.args.table.now c.args.row.now c.layout_of-layout.result
 laid c = laid_for c.machines_of.ensures c.layout_of-layout.ensures
 

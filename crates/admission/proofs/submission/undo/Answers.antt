@@ -1,6 +1,6 @@
 -- `admission::submission::undo` meets its contract: so many of the own rows are left on the timeline.
 use native.Mathlib.Omega.{arith}
-use Rattle.admission.proofs.Undoing.{Undoing, undoing_none, undoing_more, undoing_all, begins_asked, ends_asked}
+use Rattle.admission.proofs.Undoing.{undoing_none, undoing_more, undoing_all, begins_asked, ends_asked}
 use Rattle.admission.proofs.submission.undo.Goals as goal
 
 pub entry_at-entry-requires : goal.entry_at-entry-requires

@@ -1,5 +1,4 @@
-use native.Mathlib.Omega.{arith}
-use Rattle.admission.proofs.Undoing.{Undoing, undoing_none, undoing_more, undoing_all, begins_asked, ends_asked}
+use Rattle.admission.proofs.Undoing.{Undoing}
 use Rattle.admission.proofs.submission.undo.Given as goal
 
 abbrev pub invariant-loop-left : goal.invariant-loop-left

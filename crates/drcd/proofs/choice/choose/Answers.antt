@@ -1,22 +1,18 @@
 -- `drcd::choice::choose` meets its contract: after m machines what is kept is the foremost of their good trials.
 use mathlib.Core.Path.{◌≡◌}
-use Prim.Native.Nat.{◌-◌, ◌+◌, ◌<◌}
+use Prim.Native.Nat.{◌+◌, ◌<◌}
 use native.Mathlib.Omega.{arith}
-use borrow.Author.Tests.{not-true, not-false}
 use Rattle.rules.specs.declared.Job.{Job}
 use Rattle.rules.specs.declared.Setup.{Setup}
 use Rattle.rules.specs.Words.{most_machines, task_of, run_time}
 use Rattle.rules.proofs.Sums.{index_below}
 use Rattle.drcd.specs.Given.{JobIs}
-use Rattle.drcd.proofs.Chosen.{Chosen, its_figures, its_run, chosen_none, chosen_unable, chosen_asks, chosen_late, chosen_stays, chosen_taken}
+use Rattle.drcd.proofs.Chosen.{its_figures, its_run, chosen_none, chosen_unable, chosen_asks, chosen_late, chosen_stays, chosen_taken}
 use Rattle.drcd.proofs.Chosen.{chosen_all, row_laid}
 use Rattle.drcd.proofs.choice.choose.Goals as goal
 use Rattle.drcd.proofs.choice.choose.Goals.{After-run_of-run, In-loop-m}
 
--- The stops that the proof goes back to.
-
 -- what was read of the task
-
 run_read : (c : After-run_of-run) → let args = c.args in
     (j : Job) (s : Setup) → JobIs s j args.row.now args.layout → args.turn.t < j.taskcount →
     c.run_of-run.result ≡ run_time j (args.turn.t + 1) (c.loop-m.m + 1)

@@ -1,8 +1,7 @@
 -- `drcd::choice::comes_first` meets its contract: each way out is one case of the order by cost, then by start.
 use mathlib.Core.Path.{refl}
 use native.Mathlib.Omega.{arith}
-use borrow.Author.Rules.{rules}
-use borrow.Author.Tests.{lt-ltb, le-ltb, eq-eqb, ne_eqb, not-false}
+use borrow.Author.Tests.{lt-ltb, le-ltb, eq-eqb, ne_eqb}
 use Rattle.drcd.proofs.choice.comes_first.Goals as goal
 
 pub returns-then-cost-best_cost : goal.returns-then-cost-best_cost

@@ -1,16 +1,12 @@
 -- `drcd::inputs::gather` meets its contract: after i messages those of them that go into the task are gathered.
-use Prim.Native.Nat.{◌-◌}
-use mathlib.Core.Logic.{⊎_elim}
 use native.Mathlib.Omega.{arith}
 use Rattle.rules.specs.Words.{most_tasks}
 use Rattle.rules.specs.Bounds.{Between}
 use Rattle.figures.specs.Rows.{AskMessageFigure}
 use Rattle.drcd.proofs.JobFigures.{task_asked, message_asked, sender_within}
-use Rattle.drcd.proofs.Gathered.{Gathered, gathered_none, gathered_other, gathered_more, gathered_all}
+use Rattle.drcd.proofs.Gathered.{gathered_none, gathered_other, gathered_more, gathered_all}
 use Rattle.drcd.proofs.inputs.gather.Goals as goal
 use Rattle.drcd.proofs.inputs.gather.Goals.{After-sender_of-sender, In-loop-i, else-receiver-t, then-receiver-t}
-
--- The stops that the proof goes back to.
 
 asked : (c : In-loop-i) → AskMessageFigure c.args.layout.at c.loop-i.i
 asked c = message_asked c.requires.job c.loop-i-test.true
@@ -37,9 +33,9 @@ loop-i-preserved c =
     let more = c.loop-i-test.true in
     let receives = c.receiver_of-receiver.ensures in
     elim c.if-receiver-t.branch [
-        then-receiver-t w ↦ rw (w.inputs-is, w.count-is) (gathered_more inv more receives w.if-receiver-t.true w.sender_of-sender.ensures w.volume_of.ensures w.put_input.ensures)
-        | else-receiver-t w ↦ rw (w.inputs-is, w.count-is) (gathered_other inv more receives w.if-receiver-t.false)
-        ]
+      | then-receiver-t w ↦ rw (w.inputs-is, w.count-is) (gathered_more inv more receives w.if-receiver-t.true w.sender_of-sender.ensures w.volume_of.ensures w.put_input.ensures)
+      | else-receiver-t w ↦ rw (w.inputs-is, w.count-is) (gathered_other inv more receives w.if-receiver-t.false)
+    ]
 
 pub loop-i-init : goal.loop-i-init
 loop-i-init c = gathered_none c.requires.long

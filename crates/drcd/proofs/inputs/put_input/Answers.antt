@@ -1,5 +1,4 @@
 -- `drcd::inputs::put_input` meets its contract.
-use borrow.Author.Rules.{rules}
 use Rattle.drcd.proofs.Gathered.{input_put}
 use Rattle.drcd.proofs.inputs.put_input.Goals as goal
 

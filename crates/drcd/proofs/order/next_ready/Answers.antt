@@ -1,15 +1,10 @@
 -- `drcd::order::next_ready` meets its contract: after t tasks the best is the foremost of those of them that are ready.
-use mathlib.Core.Logic.{⊎_elim}
-use Prim.Native.Nat.{◌-◌}
-use borrow.Author.Tests.{leb-true, leb-false}
 use native.Mathlib.Omega.{arith}
 use Rattle.figures.specs.Rows.{AskTaskFigure}
 use Rattle.drcd.proofs.JobFigures.{task_asked}
-use Rattle.drcd.proofs.NextTask.{Best, best_none, best_placed, best_waits, best_kept, best_taken, best_found}
+use Rattle.drcd.proofs.NextTask.{best_none, best_placed, best_waits, best_kept, best_taken, best_found}
 use Rattle.drcd.proofs.order.next_ready.Goals as goal
 use Rattle.drcd.proofs.order.next_ready.Goals.{In-loop-t, else-best-ne0-via-then-best-ne0+else-deadline-its, else-best-ne0-via-else-best-ne0}
-
--- The stops that the proof goes back to.
 
 asked : (c : In-loop-t) → AskTaskFigure c.args.layout.machines c.loop-t.t
 asked c = task_asked c.requires c.loop-t-test.true
@@ -43,9 +38,9 @@ loop-t-preserved c =
     c.if-waits-at.false
     c.deadline_of-its.ensures
     (λ ne. elim c.else-best-ne0.branch [
-        else-best-ne0-via-then-best-ne0+else-deadline-its w ↦ w.if-deadline-its.false
-        | else-best-ne0-via-else-best-ne0 w ↦ absurd (ne w.if-best-ne0.false)
-        ])
+      | else-best-ne0-via-then-best-ne0+else-deadline-its w ↦ w.if-deadline-its.false
+      | else-best-ne0-via-else-best-ne0 w ↦ absurd (ne w.if-best-ne0.false)
+    ])
 
 pub waiting-waits-requires : goal.waiting-waits-requires
 waiting-waits-requires c = c.requires

@@ -1,12 +1,10 @@
 -- `drcd::order::waiting` meets its contract: after i messages the tasks marked are those that wait by one of them.
-use Prim.Native.Nat.{◌-◌}
-use mathlib.Core.Logic.{⊎_elim}
 use native.Mathlib.Omega.{arith}
 use Rattle.rules.specs.Words.{most_tasks}
 use Rattle.rules.specs.Bounds.{Between}
 use Rattle.figures.specs.Rows.{AskMessageFigure}
 use Rattle.drcd.proofs.JobFigures.{message_asked, sender_within, receiver_within}
-use Rattle.drcd.proofs.Waiting.{Waited, waited_none, waited_placed, waited_unplaced, waited_all}
+use Rattle.drcd.proofs.Waiting.{waited_none, waited_placed, waited_unplaced, waited_all}
 use Rattle.drcd.proofs.order.waiting.Goals as goal
 use Rattle.drcd.proofs.order.waiting.Goals.{After-receiver_of, After-sender_of, In-loop-i, else-machines-sender-eq0, then-machines-sender-eq0}
 
@@ -28,9 +26,9 @@ loop-i-preserved c =
     let more = c.loop-i-test.true in
     let sends = c.sender_of.ensures in
     elim c.if-machines-sender-eq0.branch [
-        then-machines-sender-eq0 w ↦ rw w.waits-is (waited_unplaced inv more sends w.if-machines-sender-eq0.true w.receiver_of.ensures)
-        | else-machines-sender-eq0 w ↦ rw w.waits-is (waited_placed inv more sends w.if-machines-sender-eq0.false)
-        ]
+      | then-machines-sender-eq0 w ↦ rw w.waits-is (waited_unplaced inv more sends w.if-machines-sender-eq0.true w.receiver_of.ensures)
+      | else-machines-sender-eq0 w ↦ rw w.waits-is (waited_placed inv more sends w.if-machines-sender-eq0.false)
+    ]
 
 pub loop-i-init : goal.loop-i-init
 loop-i-init c = waited_none _ _ _

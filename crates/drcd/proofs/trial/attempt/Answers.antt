@@ -1,10 +1,7 @@
 -- `drcd::trial::attempt` meets its contract.
 use native.Mathlib.Omega.{arith}
-use borrow.Author.Rules.{rules}
 use Rattle.drcd.proofs.Attempts.{own_cost, ask_least, figures_fit, attempt_is}
 use Rattle.drcd.proofs.trial.attempt.Goals as goal
-
--- The stops that the proof goes back to.
 
 pub overflow_mul-result : goal.overflow_mul-result
 overflow_mul-result c = let most = own_cost c.requires c.rate_of.ensures in omega arith

@@ -1,16 +1,12 @@
 -- `drcd::trial::send` meets its contract.
 use Prim.Native.Nat.{◌+◌, ◌*◌, ◌^◌, ◌<◌}
 use native.Mathlib.Omega.{arith}
-use borrow.Author.Rules.{rules}
 use Rattle.timeline.specs.Timeline.{tick_room}
 use Rattle.drcd.proofs.Sending.{takes, ask_beside, ask_span, place_fits, cost_at_most, sent_is}
 use Rattle.drcd.proofs.trial.send.Goals as goal
 use Rattle.drcd.proofs.trial.send.Goals.{After-least_beside-start}
 
--- The stops that the proof goes back to.
-
 -- its place on the line, and where it ends there
-
 fits : (c : After-least_beside-start) →
     c.link_number-code.result * tick_room + c.least_beside-start.result + c.time_of.result * c.args.crossing.volume < 2 ^ 64
 fits c =

@@ -1,7 +1,6 @@
 -- `figures::jobs::deadline_of` meets its contract: a task's first figure.
 use native.Mathlib.Nat.{add-zero}
 use native.Mathlib.Omega.{arith}
-use borrow.Author.Rules.{rules}
 use Rattle.figures.proofs.Places.{task_room, task_figure}
 use Rattle.figures.proofs.jobs.deadline_of.Goals as goal
 

@@ -1,6 +1,5 @@
 -- `figures::jobs::dispatch_of` meets its contract: a task's second figure.
 use native.Mathlib.Omega.{arith}
-use borrow.Author.Rules.{rules}
 use Rattle.figures.proofs.Places.{task_room, task_figure}
 use Rattle.figures.proofs.jobs.dispatch_of.Goals as goal
 

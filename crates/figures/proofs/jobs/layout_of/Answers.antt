@@ -1,6 +1,5 @@
 -- `figures::jobs::layout_of` meets its contract.
 use mathlib.Core.Path.{refl}
-use borrow.Author.Rules.{rules}
 use Rattle.figures.proofs.jobs.layout_of.Goals as goal
 
 pub messages_at-at-requires : goal.messages_at-at-requires

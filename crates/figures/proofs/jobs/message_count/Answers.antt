@@ -1,5 +1,4 @@
 -- `figures::jobs::message_count` meets its contract: the figure behind those of the tasks.
-use borrow.Author.Rules.{rules}
 use Rattle.figures.proofs.Places.{message_count_is}
 use Rattle.figures.proofs.jobs.message_count.Goals as goal
 

@@ -1,7 +1,6 @@
 -- `figures::jobs::messages_at` meets its contract: the figures of tasks leave room for those of the messages.
 use mathlib.Core.Path.{refl}
 use native.Mathlib.Omega.{arith}
-use borrow.Author.Rules.{rules}
 use Rattle.texts.proofs.Figured.{tasks_within}
 use Rattle.figures.proofs.jobs.messages_at.Goals as goal
 

@@ -1,6 +1,5 @@
 -- `figures::jobs::number_of` meets its contract: the row's first figure.
 use native.Mathlib.Omega.{arith}
-use borrow.Author.Rules.{rules}
 use Rattle.figures.proofs.Places.{head_figure}
 use Rattle.figures.proofs.jobs.number_of.Goals as goal
 

@@ -1,6 +1,5 @@
 -- `figures::jobs::receiver_of` meets its contract: a message's second figure.
 use native.Mathlib.Omega.{arith}
-use borrow.Author.Rules.{rules}
 use Rattle.figures.proofs.Places.{message_figure}
 use Rattle.figures.proofs.jobs.receiver_of.Goals as goal
 

@@ -1,6 +1,5 @@
 -- `figures::jobs::run_of` meets its contract: a task's figure behind its first two, one for each machine.
 use native.Mathlib.Omega.{arith}
-use borrow.Author.Rules.{rules}
 use Rattle.figures.proofs.Places.{task_room, run_figure}
 use Rattle.figures.proofs.jobs.run_of.Goals as goal
 

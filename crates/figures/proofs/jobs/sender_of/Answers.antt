@@ -1,7 +1,6 @@
 -- `figures::jobs::sender_of` meets its contract: a message's first figure.
 use native.Mathlib.Nat.{add-zero}
 use native.Mathlib.Omega.{arith}
-use borrow.Author.Rules.{rules}
 use Rattle.figures.proofs.Places.{message_figure}
 use Rattle.figures.proofs.jobs.sender_of.Goals as goal
 

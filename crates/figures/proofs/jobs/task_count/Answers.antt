@@ -1,6 +1,5 @@
 -- `figures::jobs::task_count` meets its contract: the row's third figure.
 use native.Mathlib.Omega.{arith}
-use borrow.Author.Rules.{rules}
 use Rattle.figures.proofs.Places.{head_figure}
 use Rattle.figures.proofs.jobs.task_count.Goals as goal
 

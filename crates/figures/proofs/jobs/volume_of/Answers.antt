@@ -1,6 +1,5 @@
 -- `figures::jobs::volume_of` meets its contract: a message's third figure.
 use native.Mathlib.Omega.{arith}
-use borrow.Author.Rules.{rules}
 use Rattle.figures.proofs.Places.{message_figure}
 use Rattle.figures.proofs.jobs.volume_of.Goals as goal
 

@@ -1,7 +1,6 @@
 -- `figures::lending::put_links` meets its contract: the figures of the links to the first b machines stand in the row.
-use Prim.Native.Nat.{◌-◌}
 use native.Mathlib.Omega.{arith}
-use Rattle.figures.proofs.Lent.{SomeLinks, no_links, links_room, one_link, all_links}
+use Rattle.figures.proofs.Lent.{no_links, links_room, one_link, all_links}
 use Rattle.figures.proofs.lending.put_links.Goals as goal
 
 pub loop-b-preserved : goal.loop-b-preserved

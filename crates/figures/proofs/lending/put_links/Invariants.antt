@@ -1,6 +1,5 @@
 use Prim.Native.Nat.{◌-◌}
-use native.Mathlib.Omega.{arith}
-use Rattle.figures.proofs.Lent.{SomeLinks, no_links, links_room, one_link, all_links}
+use Rattle.figures.proofs.Lent.{SomeLinks}
 use Rattle.figures.proofs.lending.put_links.Given as goal
 
 abbrev pub invariant-loop-b : goal.invariant-loop-b

@@ -1,7 +1,6 @@
 -- `figures::lending::put_rates` meets its contract: the rates of the first m machines stand in the row.
-use Prim.Native.Nat.{◌-◌}
 use native.Mathlib.Omega.{arith}
-use Rattle.figures.proofs.Lent.{SomeRates, no_rates, one_rate, all_rates}
+use Rattle.figures.proofs.Lent.{no_rates, one_rate, all_rates}
 use Rattle.figures.proofs.lending.put_rates.Goals as goal
 
 pub loop-m-preserved : goal.loop-m-preserved

@@ -1,6 +1,5 @@
 use Prim.Native.Nat.{◌-◌}
-use native.Mathlib.Omega.{arith}
-use Rattle.figures.proofs.Lent.{SomeRates, no_rates, one_rate, all_rates}
+use Rattle.figures.proofs.Lent.{SomeRates}
 use Rattle.figures.proofs.lending.put_rates.Given as goal
 
 abbrev pub invariant-loop-m : goal.invariant-loop-m

@@ -1,8 +1,6 @@
 -- `figures::lending::table_figures` meets its contract: behind the count and the rates stand the figures of the links from the first a machines.
 use mathlib.Core.Path.{refl}
-use Prim.Native.Nat.{◌-◌}
-use borrow.Author.Rules.{rules}
-use Rattle.figures.proofs.Lent.{SomeTable, no_machine, one_machine, all_machines}
+use Rattle.figures.proofs.Lent.{no_machine, one_machine, all_machines}
 use Rattle.figures.proofs.lending.table_figures.Goals as goal
 
 pub loop-a-preserved : goal.loop-a-preserved

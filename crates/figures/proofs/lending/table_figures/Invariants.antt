@@ -1,7 +1,5 @@
-use mathlib.Core.Path.{refl}
 use Prim.Native.Nat.{◌-◌}
-use borrow.Author.Rules.{rules}
-use Rattle.figures.proofs.Lent.{SomeTable, no_machine, one_machine, all_machines}
+use Rattle.figures.proofs.Lent.{SomeTable}
 use Rattle.figures.proofs.lending.table_figures.Given as goal
 
 abbrev pub invariant-loop-a : goal.invariant-loop-a

@@ -1,6 +1,5 @@
 -- `figures::tables::fail_of` meets its contract: what stands behind the link's place.
 use native.Mathlib.Omega.{arith}
-use borrow.Author.Rules.{rules}
 use Rattle.figures.proofs.Pairs.{pair_room, fail_figure}
 use Rattle.figures.proofs.tables.fail_of.Goals as goal
 

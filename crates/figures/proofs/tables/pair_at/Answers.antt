@@ -1,6 +1,5 @@
 -- `figures::tables::pair_at` meets its contract: no sum on the way is too large.
 use native.Mathlib.Omega.{arith}
-use borrow.Author.Rules.{rules}
 use Rattle.figures.proofs.Pairs.{pair_room}
 use Rattle.figures.proofs.tables.pair_at.Goals as goal
 

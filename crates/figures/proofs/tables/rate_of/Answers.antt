@@ -1,5 +1,4 @@
 -- `figures::tables::rate_of` meets its contract: the row has the rate of each machine at its number.
-use borrow.Author.Rules.{rules}
 use Rattle.figures.proofs.Pairs.{machine_figure}
 use Rattle.figures.proofs.tables.rate_of.Goals as goal
 

@@ -1,6 +1,5 @@
 -- `figures::tables::time_of` meets its contract: what stands at the link's place.
 use native.Mathlib.Omega.{arith}
-use borrow.Author.Rules.{rules}
 use Rattle.figures.proofs.Pairs.{pair_room, time_figure}
 use Rattle.figures.proofs.tables.time_of.Goals as goal
 

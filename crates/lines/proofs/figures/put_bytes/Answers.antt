@@ -1,8 +1,5 @@
 -- `lines::figures::put_bytes` meets its contract: i bytes are copied.
-use Prim.Native.Nat.{◌-◌}
-use lib.ListN.{length}
-use borrow.Author.Rules.{rules}
-use Rattle.lines.proofs.Put.{Copied, copied_none, copied_more, copied_all}
+use Rattle.lines.proofs.Put.{copied_none, copied_more, copied_all}
 use Rattle.lines.proofs.figures.put_bytes.Goals as goal
 
 pub loop-i-init : goal.loop-i-init

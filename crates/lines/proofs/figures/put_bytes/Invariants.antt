@@ -1,7 +1,6 @@
 use Prim.Native.Nat.{◌-◌}
 use lib.ListN.{length}
-use borrow.Author.Rules.{rules}
-use Rattle.lines.proofs.Put.{Copied, copied_none, copied_more, copied_all}
+use Rattle.lines.proofs.Put.{Copied}
 use Rattle.lines.proofs.figures.put_bytes.Given as goal
 
 abbrev pub invariant-loop-i : goal.invariant-loop-i

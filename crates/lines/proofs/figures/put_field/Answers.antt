@@ -8,8 +8,6 @@ use Rattle.lines.proofs.Put.{field_length, figure_room, field_long, feed_room, f
 use Rattle.lines.proofs.figures.put_field.Goals as goal
 use Rattle.lines.proofs.figures.put_field.Goals.{After-put_figure-end}
 
--- The stops: the key is written, then the figure.
-
 room : (c : After-put_figure-end) → c.put_figure-end.result < length c.put_figure-end.new.output
 room c = feed_room c.args.key.now c.args.n c.requires c.put_bytes-start.ensures c.put_figure-end.ensures
 

@@ -3,13 +3,11 @@ use mathlib.Core.Path.{◌∙◌}
 use Prim.Native.Nat.{◌≤◌, ◌<◌}
 use native.Mathlib.Omega.{arith}
 use lib.ListN.{length, length-set}
-use borrow.Author.Rules.{rules}
-use Rattle.lines.proofs.Put.{Digits, digits_none, digits_more, digits_all, digit_place}
+use Rattle.lines.proofs.Put.{digits_none, digits_more, digits_all, digit_place}
 use Rattle.lines.proofs.figures.put_figure.Goals as goal
 use Rattle.lines.proofs.figures.put_figure.Goals.{At-loop-rest}
 
 -- the next digit has its place
-
 placed : (c : At-loop-rest) → (c.args.at < c.loop-rest.i) × (c.loop-rest.i ≤ length c.loop-rest.output)
 placed c = digit_place c.loop-rest.invariant c.requires
 

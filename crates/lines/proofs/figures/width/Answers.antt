@@ -1,7 +1,6 @@
 -- `lines::figures::width` meets its contract: `count` digits are counted, and those of `rest` are not.
 use native.Mathlib.Omega.{arith}
-use borrow.Author.Rules.{rules}
-use Rattle.lines.proofs.Put.{WidthSoFar, counted_more, counted_all, count_bound}
+use Rattle.lines.proofs.Put.{counted_more, counted_all, count_bound}
 use Rattle.lines.proofs.figures.width.Goals as goal
 
 pub overflow_add-count : goal.overflow_add-count

@@ -1,6 +1,4 @@
-use native.Mathlib.Omega.{arith}
-use borrow.Author.Rules.{rules}
-use Rattle.lines.proofs.Put.{WidthSoFar, counted_more, counted_all, count_bound}
+use Rattle.lines.proofs.Put.{WidthSoFar}
 use Rattle.lines.proofs.figures.width.Given as goal
 
 abbrev pub invariant-loop-rest : goal.invariant-loop-rest

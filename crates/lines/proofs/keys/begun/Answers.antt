@@ -1,6 +1,5 @@
 -- `lines::keys::begun` meets its contract, by what `begins_with` answers.
 use mathlib.Core.Path.{refl}
-use borrow.Author.Rules.{rules}
 use Rattle.lines.proofs.keys.begun.Goals as goal
 
 pub returns-then-begins_with : goal.returns-then-begins_with

@@ -1,5 +1,4 @@
 -- `lines::keys::put_key` meets its contract: the key stands in the row of all keys.
-use borrow.Author.Rules.{rules}
 use Rattle.lines.proofs.KeyRow.{stands}
 use Rattle.lines.proofs.keys.put_key.Goals as goal
 

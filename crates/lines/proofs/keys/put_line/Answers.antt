@@ -9,8 +9,6 @@ use Rattle.lines.proofs.Put.{field_length, figure_room, field_long, feed_room, f
 use Rattle.lines.proofs.keys.put_line.Goals as goal
 use Rattle.lines.proofs.keys.put_line.Goals.{After-put_figure-end}
 
--- The stops: the key is written, then the figure.
-
 room : (c : After-put_figure-end) → c.put_figure-end.result < length c.put_figure-end.new.output
 room c = feed_room (key_bytes c.args.key) c.args.figure c.requires c.put_key-start.ensures c.put_figure-end.ensures
 

@@ -1,9 +1,8 @@
 -- `lines::line::begins_with` meets its contract: up to the byte i the key and the text agree.
-use Prim.Native.Nat.{◌-◌, ◌<◌}
+use Prim.Native.Nat.{◌<◌}
 use native.Mathlib.Omega.{arith}
 use lib.ListN.{length}
-use borrow.Author.Rules.{rules}
-use Rattle.lines.proofs.Begun.{Compared, compared_none, compared_more, differs, too_short, key_ended}
+use Rattle.lines.proofs.Begun.{compared_none, compared_more, differs, too_short, key_ended}
 use Rattle.lines.proofs.line.begins_with.Goals as goal
 use Rattle.lines.proofs.line.begins_with.Goals.{In-loop-i}
 
@@ -11,7 +10,6 @@ pub loop-i-init : goal.loop-i-init
 loop-i-init c = compared_none c.args.key.now c.args.text.now
 
 -- the text is as long as the key, so there is a byte
-
 byte_there : (c : In-loop-i) → c.loop-i.i < length c.args.text.now
 byte_there c = omega (arith, c.if-text-key.false, c.loop-i-test.true)
 

@@ -1,8 +1,6 @@
-use Prim.Native.Nat.{◌-◌, ◌<◌}
-use native.Mathlib.Omega.{arith}
+use Prim.Native.Nat.{◌-◌}
 use lib.ListN.{length}
-use borrow.Author.Rules.{rules}
-use Rattle.lines.proofs.Begun.{Compared, compared_none, compared_more, differs, too_short, key_ended}
+use Rattle.lines.proofs.Begun.{Compared}
 use Rattle.lines.proofs.line.begins_with.Given as goal
 
 abbrev pub invariant-loop-i : goal.invariant-loop-i

@@ -1,13 +1,10 @@
 -- `lines::line::number` meets its contract: each return is one of 15's tests.
 use mathlib.Core.Path.{◌≡◌, refl}
 use native.Mathlib.Omega.{arith}
-use borrow.Author.Rules.{rules}
 use borrow.Author.Tests.{eq-eqb, ne_eqb}
 use Rattle.lines.specs.Figures.{zero_digit}
 use Rattle.lines.proofs.Numbers.{no_digits, too_many, feed_missing, other_byte, leading_zero, well}
 use Rattle.lines.proofs.line.number.Goals as goal
-
--- The stops that the proof goes back to.
 
 pub returns-then-count-eq0 : goal.returns-then-count-eq0
 returns-then-count-eq0 c = no_digits c.scan-digits.ensures c.if-count-eq0.true

@@ -3,20 +3,16 @@ use mathlib.Core.Path.{sym, ◌∙◌}
 use Prim.Native.Nat.{◌+◌, ◌^◌, ◌<◌}
 use native.Mathlib.Omega.{arith}
 use lib.ListN.{drop}
-use borrow.Author.Rules.{rules}
 use Rattle.lines.specs.Parts.{NumberIs}
 use Rattle.lines.specs.DueLines.{due_of}
 use Rattle.lines.proofs.Lined.{part, key_size, Started, not_begun, key_within, ill_line, unfit_line, good_line, next_within}
 use Rattle.lines.proofs.line.read_line.Goals as goal
 use Rattle.lines.proofs.line.read_line.Goals.{After-key_at-start, After-number-digits, Else-count-eq0}
 
--- The stops: the key is compared and has begun, and the number after it is read.
-
 started : (c : After-key_at-start) → let a = c.args in Started (due_of a.due) a.text.now a.at c.key_at-start.result
 started c = let a = c.args in record { is = rw (part a.text.now a.at) at c.key_at-start.ensures; some = (key_size a.due.key).0 }
 
 -- what `number` found stands after the key
-
 found : (c : After-number-digits) → let a = c.args in
     NumberIs (drop c.key_at-start.result (drop a.at a.text.now)) a.due.digits c.number-digits.result
 found c =
@@ -27,7 +23,6 @@ pub returns-then-start-eq0 : goal.returns-then-start-eq0
 returns-then-start-eq0 c = not_begun (started (goal.at.returns-then-start-eq0 c).After-key_at-start) c.if-start-eq0.true
 
 -- the key lies within what is left of the text
-
 pub slice_bounds-number-count : goal.slice_bounds-number-count
 slice_bounds-number-count c = let a = c.args in rw (part a.text.now a.at) (key_within (started (goal.at.slice_bounds-number-count c).After-key_at-start) c.if-start-eq0.false)
 

@@ -1,10 +1,9 @@
 -- `lines::line::scan` meets its contract: `count` digits have been read, and they say `value`.
-use Prim.Native.Nat.{◌+◌, ◌-◌, ◌^◌, ◌<◌}
+use Prim.Native.Nat.{◌^◌, ◌<◌}
 use native.Mathlib.Omega.{arith}
-use borrow.Author.Rules.{rules}
 use Rattle.lines.specs.Parts.{most_scanned}
 use Rattle.lines.proofs.Digits.{digit_below, digit_above}
-use Rattle.lines.proofs.Scanned.{Scanned, scanned_none, scanned_more, scan_bound, scan_ends, scan_other, scan_many}
+use Rattle.lines.proofs.Scanned.{scanned_none, scanned_more, scan_bound, scan_ends, scan_other, scan_many}
 use Rattle.lines.proofs.line.scan.Goals as goal
 use Rattle.lines.proofs.line.scan.Goals.{Else-byte-gt57}
 

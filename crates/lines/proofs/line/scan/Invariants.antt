@@ -1,9 +1,5 @@
-use Prim.Native.Nat.{◌+◌, ◌-◌, ◌^◌, ◌<◌}
-use native.Mathlib.Omega.{arith}
-use borrow.Author.Rules.{rules}
-use Rattle.lines.specs.Parts.{most_scanned}
-use Rattle.lines.proofs.Digits.{digit_below, digit_above}
-use Rattle.lines.proofs.Scanned.{Scanned, scanned_none, scanned_more, scan_bound, scan_ends, scan_other, scan_many}
+use Prim.Native.Nat.{◌+◌, ◌-◌}
+use Rattle.lines.proofs.Scanned.{Scanned}
 use Rattle.lines.proofs.line.scan.Given as goal
 
 abbrev pub invariant-loop-count : goal.invariant-loop-count

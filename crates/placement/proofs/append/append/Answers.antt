@@ -1,19 +1,16 @@
 -- `placement::append::append` meets its contract: after i turns the rows of the first i messages follow those of the job, and at the end the task's own.
 use mathlib.Core.Path.{◌≡◌, refl, ◌∙◌}
-use mathlib.Core.Logic.{⊎_elim}
 use mathlib.Core.Bool.{true, false}
-use Prim.Native.Nat.{◌-◌, ◌<◌}
+use Prim.Native.Nat.{◌<◌}
 use native.Mathlib.Omega.{arith}
 use native.Mathlib.Numerals.{add-one}
 use Rattle.rules.specs.Words.{most_messages}
 use Rattle.rules.proofs.Sums.{index_below, index_fits}
-use Rattle.placement.proofs.Appending.{goes, goes_on, stays_there, stays_light, Appending, appending_none, appending_same, appending_more, appended_all}
+use Rattle.placement.proofs.Appending.{goes, goes_on, stays_there, stays_light, appending_none, appending_same, appending_more, appended_all}
 use Rattle.placement.proofs.Appending.{task_at_most, inputs_at_most, message_asked, message_push_asked, message_used_few}
 use Rattle.placement.proofs.Appending.{own_lasts, own_asked, own_push_asked, own_used_few}
 use Rattle.placement.proofs.append.append.Goals as goal
 use Rattle.placement.proofs.append.append.Goals.{In-loop-i, Then-input-ne0, then-input-kept+then-input-ne0, else-input-kept, else-input-kept-via-then-input-kept+else-input-ne0, else-input-kept-via-else-input-kept}
-
--- The stops that the proof goes back to.
 
 pub overflow_add-task : goal.overflow_add-task
 overflow_add-task c = omega (arith, task_at_most c.requires)
@@ -65,19 +62,19 @@ loop-i-preserved c =
     let is = c.input_at-input.ensures in
     let input = c.input_at-input.result in
     elim c.if-input-kept.branch [
-        then-input-kept+then-input-ne0 on ↦
-        rw
-        (on.begins-is, on.ends-is, on.own-is, on.used-is, add-one c.loop-i.i)
-        (appending_more ask so_far below is (goes_on input _ on.if-input-kept.true on.if-input-ne0.true-raw) on.message_entry-entry.ensures on.push.ensures)
-        | else-input-kept off ↦
-        let stays : goes input c.args.kept.machine ≡ false =
-        elim off.else-input-kept.branch [
-            else-input-kept-via-then-input-kept+else-input-ne0 light ↦ stays_light input _ light.if-input-kept.true light.if-input-ne0.false-raw
+      | then-input-kept+then-input-ne0 on ↦
+          rw
+          (on.begins-is, on.ends-is, on.own-is, on.used-is, add-one c.loop-i.i)
+          (appending_more ask so_far below is (goes_on input _ on.if-input-kept.true on.if-input-ne0.true-raw) on.message_entry-entry.ensures on.push.ensures)
+      | else-input-kept off ↦
+          let stays : goes input c.args.kept.machine ≡ false =
+          elim off.else-input-kept.branch [
+            | else-input-kept-via-then-input-kept+else-input-ne0 light ↦ stays_light input _ light.if-input-kept.true light.if-input-ne0.false-raw
             | else-input-kept-via-else-input-kept there ↦ stays_there input _ there.if-input-kept.false
-            ]
-        in
-        rw (off.begins-is, off.ends-is, off.own-is, off.used-is, add-one c.loop-i.i) (appending_same ask so_far below is stays)
-        ]
+          ]
+          in
+          rw (off.begins-is, off.ends-is, off.own-is, off.used-is, add-one c.loop-i.i) (appending_same ask so_far below is stays)
+    ]
 
 pub overflow_sub-run : goal.overflow_sub-run
 overflow_sub-run c = own_lasts c.requires

@@ -1,14 +1,5 @@
-use mathlib.Core.Path.{◌≡◌, refl, ◌∙◌}
-use mathlib.Core.Logic.{⊎_elim}
-use mathlib.Core.Bool.{true, false}
-use Prim.Native.Nat.{◌-◌, ◌<◌}
-use native.Mathlib.Omega.{arith}
-use native.Mathlib.Numerals.{add-one}
-use Rattle.rules.specs.Words.{most_messages}
-use Rattle.rules.proofs.Sums.{index_below, index_fits}
-use Rattle.placement.proofs.Appending.{goes, goes_on, stays_there, stays_light, Appending, appending_none, appending_same, appending_more, appended_all}
-use Rattle.placement.proofs.Appending.{task_at_most, inputs_at_most, message_asked, message_push_asked, message_used_few}
-use Rattle.placement.proofs.Appending.{own_lasts, own_asked, own_push_asked, own_used_few}
+use Prim.Native.Nat.{◌-◌}
+use Rattle.placement.proofs.Appending.{Appending}
 use Rattle.placement.proofs.append.append.Given as goal
 
 abbrev pub invariant-loop-i : goal.invariant-loop-i

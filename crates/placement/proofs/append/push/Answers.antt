@@ -3,8 +3,6 @@ use native.Mathlib.Omega.{arith}
 use Rattle.placement.proofs.Pushing.{push_span, push_entry, pushed_row}
 use Rattle.placement.proofs.append.push.Goals as goal
 
--- The stops that the proof goes back to.
-
 pub overflow_sub-used : goal.overflow_sub-used
 overflow_sub-used c =
     let can = c.requires.pushable in

@@ -1,10 +1,7 @@
 -- `placement::bookings::message_entry` meets its contract: in range, each figure fits, and so do the end and the cost.
 use native.Mathlib.Omega.{arith}
-use borrow.Author.Rules.{rules}
 use Rattle.placement.proofs.Booked.{link_ticks_at_most, message_cost_at_most, its_link, its_code_below, message_made_is}
 use Rattle.placement.proofs.bookings.message_entry.Goals as goal
-
--- The stops that the proof goes back to.
 
 pub overflow_mul-len : goal.overflow_mul-len
 overflow_mul-len c = omega (arith, link_ticks_at_most c.requires c.time_of.ensures)

@@ -1,6 +1,5 @@
 -- `placement::bookings::task_entry` meets its contract: in range, each figure fits, and so does the cost.
 use native.Mathlib.Omega.{arith}
-use borrow.Author.Rules.{rules}
 use Rattle.placement.proofs.Booked.{task_cost_at_most, task_made_is}
 use Rattle.placement.proofs.bookings.task_entry.Goals as goal
 

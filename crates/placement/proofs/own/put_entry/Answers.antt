@@ -1,5 +1,4 @@
 -- `placement::own::put_entry` meets its contract.
-use borrow.Author.Rules.{rules}
 use Rattle.placement.proofs.Entries.{entry_put}
 use Rattle.placement.proofs.own.put_entry.Goals as goal
 

@@ -1,5 +1,4 @@
 -- `placement::own::row_of` meets its contract: the holder is that of the label, and what is past the resource's number are the ticks.
-use borrow.Author.Rules.{rules}
 use Rattle.placement.proofs.Entries.{row_made}
 use Rattle.placement.proofs.own.row_of.Goals as goal
 

@@ -6,16 +6,13 @@ use native.Mathlib.Numerals.{add-one}
 use borrow.Author.Tests.{not-true, not-false}
 use Rattle.rules.specs.Words.{most_tasks}
 use Rattle.rules.proofs.Sums.{index_fits}
-use Rattle.placement.proofs.Turning.{Turning, turning_none, turning_all, turning_over, index_few, dispatch_asked, release_room, gather_asked}
+use Rattle.placement.proofs.Turning.{turning_none, turning_all, turning_over, index_few, dispatch_asked, release_room, gather_asked}
 use Rattle.placement.proofs.Turning.{choose_asked, turning_late, LaidFor, laid_for, append_asked, turning_more, turns_few}
 use Rattle.placement.proofs.Turning.{rows_few, same_begins, same_ends, cost_room}
 use Rattle.placement.proofs.place.place.Goals as goal
 use Rattle.placement.proofs.place.place.Goals.{After-slice_known-in-loop-turns-2-1, At-loop-turns, Else-task-eq0}
 
--- The stops that the proof goes back to.
-
 -- the layout is that of every job that the row is of
-
 abbrev laid : (c : At-loop-turns) → LaidFor c.args.table.now c.args.row.now c.layout_of-layout.result
 laid c = laid_for c.machines_of.ensures c.layout_of-layout.ensures
 
@@ -82,8 +79,6 @@ loop-turns-preserved c =
     (turning_more c.requires (laid (goal.at.loop-turns-preserved c).At-loop-turns) c.loop-turns.invariant c.loop-turns-test.true _ c.next_ready-task.ensures
     c.if-task-eq0.false c.dispatch_of-release.ensures c.gather-count.ensures c.choose-kept.ensures (not-false _ c.if-not-kept.false)
     c.append-used.ensures)
-
--- the task whose rows are appended
 
 turns_below : (c : After-slice_known-in-loop-turns-2-1) → c.loop-turns.turns < most_tasks
 turns_below c =

@@ -1,6 +1,5 @@
 -- `reference::checks::figures_right` is safe and ends: its loop has a turn for each of the 16 tasks. Assumes nothing.
 use Prim.Native.Nat.{◌+◌, ◌≤◌, ◌-◌}
-use borrow.Author.Rules.{rules}
 use Rattle.reference.proofs.Sizes.{most_tasks}
 use Rattle.reference.proofs.checks.figures_right.Given as goal
 

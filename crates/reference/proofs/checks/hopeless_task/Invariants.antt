@@ -1,6 +1,5 @@
 -- `reference::checks::hopeless_task` is safe and ends: its loop has a turn for each of the 16 tasks. Assumes nothing.
 use Prim.Native.Nat.{◌+◌, ◌≤◌, ◌-◌}
-use borrow.Author.Rules.{rules}
 use Rattle.reference.proofs.Sizes.{most_tasks}
 use Rattle.reference.proofs.checks.hopeless_task.Given as goal
 

@@ -1,6 +1,5 @@
 -- `reference::placing::placed` is safe and ends: its loop has 16 turns, one to place each task. Assumes nothing.
 use Prim.Native.Nat.{◌≤◌, ◌-◌}
-use borrow.Author.Rules.{rules}
 use Rattle.reference.proofs.Sizes.{most_tasks}
 use Rattle.reference.proofs.placing.placed.Given as goal
 

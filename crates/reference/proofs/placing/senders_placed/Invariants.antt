@@ -1,6 +1,5 @@
 -- `reference::placing::senders_placed` is safe and ends: its loop has a turn for each of the 32 messages. Assumes nothing.
 use Prim.Native.Nat.{◌≤◌, ◌-◌}
-use borrow.Author.Rules.{rules}
 use Rattle.reference.proofs.Sizes.{most_messages}
 use Rattle.reference.proofs.placing.senders_placed.Given as goal
 

@@ -1,6 +1,5 @@
 -- `reference::placing::with_inputs` is safe and ends: its loop has a turn for each of the 32 messages. Assumes nothing.
 use Prim.Native.Nat.{◌≤◌, ◌-◌}
-use borrow.Author.Rules.{rules}
 use Rattle.reference.proofs.Sizes.{most_messages}
 use Rattle.reference.proofs.placing.with_inputs.Given as goal
 

@@ -1,6 +1,5 @@
 -- `reference::rows::seen` is safe and ends: its loop has a turn for each of the 256 rows. Assumes nothing.
 use Prim.Native.Nat.{◌≤◌, ◌-◌}
-use borrow.Author.Rules.{rules}
 use Rattle.reference.proofs.Sizes.{most_rows}
 use Rattle.reference.proofs.rows.seen.Given as goal
 

@@ -1,6 +1,5 @@
 -- `reference::slots::least_free` is safe and ends: its loop has a turn for each of the 304 rows. Assumes nothing.
 use Prim.Native.Nat.{◌≤◌, ◌-◌}
-use borrow.Author.Rules.{rules}
 use Rattle.reference.proofs.Sizes.{most_planned}
 use Rattle.reference.proofs.slots.least_free.Given as goal
 

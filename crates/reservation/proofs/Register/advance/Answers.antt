@@ -1,12 +1,9 @@
 -- `Register::advance` meets its contract: the timetable is lent, and what is left is left after its call.
-use borrow.Author.Rules.{rules}
 use Rattle.rules.specs.Refusals.{advances}
 use Rattle.reservation.specs.Registers.{state_of}
 use Rattle.reservation.proofs.Values.{valid_timetable}
 use Rattle.reservation.proofs.Leaving.{clock_move_leaves}
 use Rattle.reservation.proofs.Register.advance.Goals as goal
-
--- The stops that the proof goes back to: the start, and the call over the timetable.
 
 pub advance-outcome-requires : goal.advance-outcome-requires
 advance-outcome-requires c = record { setup = c.args.self.setup; state = state_of c.args.self; is = valid_timetable c.requires }

@@ -1,6 +1,5 @@
 -- `Register::apply` meets its contract: each arm is one of the calls.
 use mathlib.Core.Path.{sym, subst}
-use borrow.Author.Rules.{rules}
 use Rattle.reservation.specs.Calls.{Steps}
 use Rattle.reservation.specs.Kinds.{kind_of}
 use Rattle.reservation.proofs.Register.apply.Goals as goal

@@ -1,6 +1,5 @@
 -- `Register::left_after` meets its contract: a refusal leaves the very same register, else the rows whose jobs are still held stay.
 use mathlib.Core.Path.{sym}
-use borrow.Author.Rules.{rules}
 use Rattle.reservation.proofs.Stepped.{refused_steps, removed_asked, removed_steps}
 use Rattle.reservation.proofs.Register.left_after.Goals as goal
 

@@ -11,13 +11,10 @@ use Rattle.reservation.proofs.Sighted.{sees_no_machine, sees_past, sees_none, se
 use Rattle.reservation.proofs.Register.look.Goals as goal
 use Rattle.reservation.proofs.Register.look.Goals.{Else-at-status, Else-place-begin, Else-table-machine}
 
--- The stops that the needs go back to: the start, the tests of the machine passed, a span found, and its note read.
-
 is_machine : (c : Else-table-machine) → IsMachine c.args.self.setup c.args.machine
 is_machine c = record { first = c.if-machine-lt1.false; last = c.if-table-machine.false }
 
 -- there is a span that ends after the tick
-
 below : (c : Else-at-status) → c.first_after-at.result < c.args.self.status.count
 below c = let most = c.first_after-at.ensures.at_most in omega (arith, c.if-at-status.false)
 

@@ -1,7 +1,6 @@
 -- `Register::new` meets its contract: the fresh register keeps an empty timeline and no end.
 use mathlib.Core.Path.{◌≡◌, refl, sym, ap₂, ◌∙◌, subst}
 use Prim.Native.Nat.{◌*◌}
-use borrow.Author.Rules.{rules}
 use lib.ListN.{replicate}
 use Rattle.rules.specs.Words.{fresh, setup_by_default, row_limit, held_by}
 use Rattle.rules.specs.Placing.{no_row}
@@ -18,7 +17,6 @@ use Rattle.reservation.proofs.Values.{register_valid}
 use Rattle.reservation.proofs.Register.new.Goals as goal
 
 -- what the code makes of the tables and the blank row
-
 abbrev made : Setup → Row → Register
 made s b = record {
   setup = s;

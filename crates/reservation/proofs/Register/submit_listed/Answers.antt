@@ -2,7 +2,6 @@
 use mathlib.Core.Path.{◌≡◌, refl, sym}
 use native.Mathlib.Omega.{arith}
 use lib.ListN.{length}
-use borrow.Author.Rules.{rules}
 use Rattle.rules.specs.Words.{most_tasks, most_messages}
 use Rattle.rules.proofs.Indexed.{length_mapped}
 use Rattle.figures.specs.Rows.{RowOf}
@@ -14,8 +13,6 @@ use Rattle.reservation.proofs.Stepped.{refused_steps, admitted_asked, admitted_s
 use Rattle.reservation.proofs.Register.submit_listed.Goals as goal
 use Rattle.reservation.proofs.Register.submit_listed.Goals.{After-job_figures, Start}
 
--- The stops that the proof goes back to: the start, the job's figures written, all lent, the call over the timetable, and accepted.
-
 tasks_long : (s : Start) → length s.args.job.tasks ≡ most_tasks
 tasks_long s = search length_mapped
 
@@ -23,7 +20,6 @@ messages_long : (s : Start) → length s.args.job.messages ≡ most_messages
 messages_long s = search length_mapped
 
 -- the job's figures stand in the row
-
 row_of : (c : After-job_figures) → RowOf c.args.self.setup.table.machines c.args.job c.job_figures.new.row
 row_of c =
     let count = c.table_figures-table.ensures.machines_are in
@@ -39,7 +35,6 @@ pub slice_bounds-submit-end-4 : goal.slice_bounds-submit-end-4
 slice_bounds-submit-end-4 c = sym (valid_long c.requires.valid).notes_long
 
 -- the timetable is asked
-
 submission : (c : After-job_figures) →
     Submission
     c.args.self.setup

@@ -1,12 +1,10 @@
 -- `reservation::rows::still_held` meets its contract: after i rows the slots hold those of the first i that stay.
 use mathlib.Core.Path.{refl}
-use mathlib.Core.Logic.{⊎_elim}
-use Prim.Native.Nat.{◌-◌, ◌<◌}
+use Prim.Native.Nat.{◌<◌}
 use native.Mathlib.Omega.{arith}
-use borrow.Author.Rules.{rules}
 use Rattle.rules.specs.Words.{row_limit}
 use Rattle.rules.proofs.Sums.{index_below, index_fits}
-use Rattle.reservation.proofs.Staying.{StayedSo, count_fits, jobs_asked, stayed_none, stayed_gone, stayed_more, stayed_all}
+use Rattle.reservation.proofs.Staying.{count_fits, jobs_asked, stayed_none, stayed_gone, stayed_more, stayed_all}
 use Rattle.reservation.proofs.rows.still_held.Goals as goal
 use Rattle.reservation.proofs.rows.still_held.Goals.{In-loop-i, else-is_held, then-is_held}
 
@@ -24,9 +22,9 @@ loop-i-preserved c =
     let inv = c.loop-i.invariant in
     let found = c.is_held.ensures in
     elim c.if-is_held.branch [
-        then-is_held w ↦ rw (w.rows-is, w.kept-is) (stayed_more inv c.loop-i-test.true found (count_fits c.requires) w.if-is_held.true)
-        | else-is_held w ↦ rw (w.rows-is, w.kept-is) (stayed_gone inv c.loop-i-test.true found w.if-is_held.false)
-        ]
+      | then-is_held w ↦ rw (w.rows-is, w.kept-is) (stayed_more inv c.loop-i-test.true found (count_fits c.requires) w.if-is_held.true)
+      | else-is_held w ↦ rw (w.rows-is, w.kept-is) (stayed_gone inv c.loop-i-test.true found w.if-is_held.false)
+    ]
 
 pub loop-i-init : goal.loop-i-init
 loop-i-init c = rw c.blank-rows.ensures stayed_none

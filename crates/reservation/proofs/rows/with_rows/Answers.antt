@@ -1,15 +1,14 @@
 -- `reservation::rows::with_rows` meets its contract: after i rows the slots hold the rows held and the first i of the job.
 use mathlib.Core.Path.{refl}
-use Prim.Native.Nat.{◌+◌, ◌-◌, ◌<◌}
+use Prim.Native.Nat.{◌+◌, ◌<◌}
 use native.Mathlib.Omega.{arith}
 use Rattle.rules.specs.Words.{row_limit}
 use Rattle.rules.proofs.Sums.{index_fits}
-use Rattle.reservation.proofs.Joined.{Joined, own_below, slot_below, label_asked, joined_none, joined_more, joined_all}
+use Rattle.reservation.proofs.Joined.{own_below, slot_below, label_asked, joined_none, joined_more, joined_all}
 use Rattle.reservation.proofs.rows.with_rows.Goals as goal
 use Rattle.reservation.proofs.rows.with_rows.Goals.{After-row_of}
 
 -- the slot of the next row
-
 slot : (c : After-row_of) → c.args.count + c.loop-i.i < row_limit
 slot c = slot_below c.requires c.loop-i-test.true
 

@@ -1,18 +1,13 @@
 -- `screening::messages::bad_messages` meets its contract: the first i messages are in range and ascend.
 use mathlib.Core.Path.{sym, ◌∙◌}
-use Prim.Native.Nat.{◌-◌}
 use native.Mathlib.Omega.{arith}
-use borrow.Author.Rules.{rules}
 use borrow.Author.Tests.{not-true, not-false}
 use Rattle.screening.proofs.Ascending.{message_asked, MessageRead, message_read}
-use Rattle.screening.proofs.Ascending.{AllAscend, ascend_none, message_bad, order_bad, ascend_more, messages_good}
+use Rattle.screening.proofs.Ascending.{ascend_none, message_bad, order_bad, ascend_more, messages_good}
 use Rattle.screening.proofs.messages.bad_messages.Goals as goal
 use Rattle.screening.proofs.messages.bad_messages.Goals.{After-volume_of}
 
--- The stops that the proof goes back to.
-
 -- what the accessors answer is the next message
-
 read : (c : After-volume_of) →
     let args = c.args in
     MessageRead

@@ -7,8 +7,6 @@ use Rattle.screening.proofs.Ascending.{sender_outside, receiver_outside, not_low
 use Rattle.screening.proofs.messages.message_outside.Goals as goal
 use Rattle.screening.proofs.messages.message_outside.Goals.{Else-tasks-msg, Else-tasks-msg-2}
 
--- The stops that the proof goes back to.
-
 -- The ranges that are passed, at the place behind each.
 
 sent : (c : Else-tasks-msg) → let args = c.args in outside 1 args.tasks args.msg.sender ≡ false

@@ -8,8 +8,6 @@ use Rattle.rules.specs.Sequences.{precedes}
 use Rattle.rules.proofs.Choice.{false_precedes, lower_precedes}
 use Rattle.screening.proofs.messages.stands_before.Goals as goal
 
--- The stops that the proof goes back to.
-
 pub returns-then-a-b : goal.returns-then-a-b
 returns-then-a-b c = sym (lower_precedes _ _ _ _ c.if-a-b.true)
 

@@ -1,12 +1,7 @@
 -- `screening::ranges::out_of_range` meets its contract: the figures of the first t tasks are in range.
-use Prim.Native.Nat.{◌-◌}
 use native.Mathlib.Omega.{arith}
-use borrow.Author.Rules.{rules}
-use Rattle.rules.specs.Refusals.{task_out_of_range}
-use Rattle.screening.proofs.Ranged.{NoneOf, none_first, scheduling_outside, task_inside, task_outside, tasks_inside}
+use Rattle.screening.proofs.Ranged.{none_first, scheduling_outside, task_inside, task_outside, tasks_inside}
 use Rattle.screening.proofs.ranges.out_of_range.Goals as goal
-
--- The stops that the proof goes back to.
 
 pub returns-then-scheduling_of-gt-LONGEST : goal.returns-then-scheduling_of-gt-LONGEST
 returns-then-scheduling_of-gt-LONGEST c = scheduling_outside c.scheduling_of.ensures c.if-scheduling_of-gt-LONGEST.true

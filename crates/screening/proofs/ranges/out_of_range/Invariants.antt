@@ -1,8 +1,6 @@
 use Prim.Native.Nat.{◌-◌}
-use native.Mathlib.Omega.{arith}
-use borrow.Author.Rules.{rules}
 use Rattle.rules.specs.Refusals.{task_out_of_range}
-use Rattle.screening.proofs.Ranged.{NoneOf, none_first, scheduling_outside, task_inside, task_outside, tasks_inside}
+use Rattle.screening.proofs.Ranged.{NoneOf}
 use Rattle.screening.proofs.ranges.out_of_range.Given as goal
 
 abbrev pub invariant-loop-t : goal.invariant-loop-t

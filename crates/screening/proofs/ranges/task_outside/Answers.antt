@@ -1,12 +1,9 @@
 -- `screening::ranges::task_outside` meets its contract: the run times on the first m machines are in range.
-use Prim.Native.Nat.{◌-◌}
 use native.Mathlib.Omega.{arith}
 use Rattle.rules.specs.Words.{horizon}
-use Rattle.screening.proofs.Ranged.{outside_below, outside_above, inside, task_asked, run_asked, NoneOf, none_first, too_long}
+use Rattle.screening.proofs.Ranged.{outside_below, outside_above, inside, task_asked, run_asked, none_first}
 use Rattle.screening.proofs.Ranged.{deadline_outside, dispatch_outside, run_outside, run_inside, figures_inside}
 use Rattle.screening.proofs.ranges.task_outside.Goals as goal
-
--- The stops that the proof goes back to.
 
 pub returns-then-deadline-lt1 : goal.returns-then-deadline-lt1
 returns-then-deadline-lt1 c = deadline_outside c.requires c.deadline_of-deadline.ensures (outside_below 1 horizon _ c.if-deadline-lt1.true)

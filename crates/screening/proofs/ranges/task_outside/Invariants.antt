@@ -1,8 +1,5 @@
 use Prim.Native.Nat.{◌-◌}
-use native.Mathlib.Omega.{arith}
-use Rattle.rules.specs.Words.{horizon}
-use Rattle.screening.proofs.Ranged.{outside_below, outside_above, inside, task_asked, run_asked, NoneOf, none_first, too_long}
-use Rattle.screening.proofs.Ranged.{deadline_outside, dispatch_outside, run_outside, run_inside, figures_inside}
+use Rattle.screening.proofs.Ranged.{NoneOf, too_long}
 use Rattle.screening.proofs.ranges.task_outside.Given as goal
 
 abbrev pub invariant-loop-m : goal.invariant-loop-m

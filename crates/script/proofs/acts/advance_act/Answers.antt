@@ -1,15 +1,12 @@
 -- `script::acts::advance_act` meets its contract: what the line reader answers of the part is the act.
 use mathlib.Core.Path.{refl}
 use native.Mathlib.Omega.{arith}
-use borrow.Author.Rules.{rules}
 use Rattle.rules.specs.Refusals.{advances}
 use Rattle.rules.specs.declared.Kind.TheVariants.{Advance}
 use Rattle.script.specs.Keys.{tick_key}
 use Rattle.script.proofs.Acted.{NumberLine, number_line, number_asked}
 use Rattle.script.proofs.acts.advance_act.Goals as goal
 use Rattle.script.proofs.acts.advance_act.Goals.{After-read_line-line}
-
--- The stops: the start, and the line as it was read.
 
 is_act : (c : After-read_line-line) → let a = c.args in NumberLine advances Advance tick_key a.input.now a.from c.read_line-line.result
 is_act c = number_line advances Advance (λ row n. refl) tick_key _ _ c.any_figure-due.ensures c.read_line-line.ensures

@@ -4,7 +4,6 @@ use mathlib.Core.Bool.{Bool, true, false}
 use mathlib.Core.List.{List}
 use Prim.Native.Nat.{ℕ, ◌-◌}
 use lib.ListN.{length, take, drop}
-use borrow.Author.Rules.{rules}
 use Rattle.lines.specs.Lines.{begins}
 use Rattle.texts.specs.Reader.{default_machines}
 use Rattle.lines.proofs.Lined.{part}
@@ -13,18 +12,14 @@ use Rattle.script.proofs.Acted.{at_submit, at_withdraw, at_clock, no_act, act_fi
 use Rattle.script.proofs.acts.next_act.Goals as goal
 use Rattle.script.proofs.acts.next_act.Goals.{After-begins_with, After-begins_with-2, After-begins_with-3, Else-begins_with, Else-begins_with-2, Start}
 
--- where each comparison was made
-
 abbrev text : Start → List ℕ
 text s = s.args.input.now
 
 -- the bytes from the place on
-
 abbrev rest : Start → List ℕ
 rest s = drop s.args.at (text s)
 
 -- an answer on the part is one on those bytes
-
 told : (s : Start) (key : List ℕ) (r b : Bool) → r ≡ begins key (take (length (text s) - s.args.at) (rest s)) → r ≡ b → begins key (rest s) ≡ b
 told s key r b e t = sym (e ∙ ap (begins key) (part (text s) s.args.at)) ∙ t
 

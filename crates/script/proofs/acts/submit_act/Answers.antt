@@ -1,14 +1,11 @@
 -- `script::acts::submit_act` meets its contract: what the job reader answers of the part is the act.
 use mathlib.Core.Path.{sym, ap, ◌∙◌}
 use native.Mathlib.Omega.{arith}
-use borrow.Author.Rules.{rules}
 use Rattle.rules.specs.Words.{setup_by_default}
 use Rattle.texts.specs.Reader.{default_machines}
 use Rattle.script.specs.Acts.{unread}
 use Rattle.script.proofs.Acted.{job_read, job_read_within, job_unread}
 use Rattle.script.proofs.acts.submit_act.Goals as goal
-
--- The stops: the start, and the job as it was read.
 
 pub returns-in_default : goal.returns-in_default
 unfolding setup_by_default

@@ -1,9 +1,6 @@
 -- `script::calls::called` meets its contract: each kind goes to its call.
-use borrow.Author.Rules.{rules}
 use Rattle.script.proofs.Calling.{submit_asked, timetable_asked, submit_called, withdraw_called, advance_called, called_long}
 use Rattle.script.proofs.calls.called.Goals as goal
-
--- The stops that the proof goes back to.
 
 pub submit-requires : goal.submit-requires
 submit-requires c =
@@ -26,8 +23,6 @@ returns-in-Withdraw c =
 pub returns-in-Advance : goal.returns-in-Advance
 returns-in-Advance c =
     advance_called c.requires _ c.in-Advance.is c.advance.ensures
-
--- The call that an answer comes of.
 
 pub shape_of-begins-in-Submit : goal.shape_of-begins-in-Submit
 shape_of-begins-in-Submit c = (called_long c.requires (returns-in-Submit c)).begins_same

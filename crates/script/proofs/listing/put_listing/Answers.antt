@@ -1,11 +1,8 @@
 -- `script::listing::put_listing` meets its contract: the heading, then the rows.
 use mathlib.Core.Path.{refl}
 use native.Mathlib.Omega.{arith}
-use borrow.Author.Rules.{rules}
 use Rattle.script.proofs.Listed.{whole_listing}
 use Rattle.script.proofs.listing.put_listing.Goals as goal
-
--- The stops: the start, and the heading.
 
 pub put_rows-requires : goal.put_rows-requires
 put_rows-requires c =

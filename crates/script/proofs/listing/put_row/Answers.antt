@@ -1,5 +1,4 @@
 -- `script::listing::put_row` meets its contract: what holds the row decides.
-use borrow.Author.Rules.{rules}
 use Rattle.script.specs.Listing.{row_lines}
 use Rattle.script.proofs.listing.put_row.Goals as goal
 

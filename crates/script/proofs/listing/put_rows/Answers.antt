@@ -1,15 +1,13 @@
 -- `script::listing::put_rows` meets its contract: row by row, in the order of the line.
-use Prim.Native.Nat.{◌-◌, ◌<◌}
+use Prim.Native.Nat.{◌<◌}
 use native.Mathlib.Omega.{arith}
 use Rattle.timeline.specs.RowLine.{spans_room}
 use Rattle.timetable.specs.Timetables.{Long}
 use Rattle.timetable.proofs.Removed.{timetable_long}
 use Rattle.script.proofs.Held.{row_asked}
-use Rattle.script.proofs.Listed.{RowsListed, asked_count, rows_none, rows_long, row_room, rows_more, rows_all}
+use Rattle.script.proofs.Listed.{asked_count, rows_none, rows_long, row_room, rows_more, rows_all}
 use Rattle.script.proofs.listing.put_rows.Goals as goal
 use Rattle.script.proofs.listing.put_rows.Goals.{In-loop-k}
-
--- The stops: the start, the note that a turn reads, and the row that it makes.
 
 -- a turn's index lies within the columns, which have their lengths
 

@@ -1,6 +1,5 @@
 -- `script::listing::put_span` meets its contract: two fields, one after the other.
 use native.Mathlib.Omega.{arith}
-use borrow.Author.Rules.{rules}
 use Rattle.script.specs.Listing.{start_key, finish_key}
 use Rattle.script.proofs.Fields.{first_field, within_field, at_most}
 use Rattle.script.proofs.listing.put_span.Goals as goal

@@ -1,6 +1,5 @@
 -- `script::listing::put_task_row` meets its contract: three fields, one after the other, and the span.
 use native.Mathlib.Omega.{arith}
-use borrow.Author.Rules.{rules}
 use Rattle.lines.specs.Figures.{field}
 use Rattle.script.specs.Keys.{job_key}
 use Rattle.script.specs.Replies.{task_key}
@@ -9,8 +8,6 @@ use Rattle.script.specs.Parts.{most_span, most_task_row}
 use Rattle.script.proofs.Fields.{PutWithin, first_field, within_field, within_two}
 use Rattle.script.proofs.listing.put_task_row.Goals as goal
 use Rattle.script.proofs.listing.put_task_row.Goals.{After-put_span}
-
--- The stops: the start, and after each field.
 
 written : (c : After-put_span) →
     let a = c.args in

@@ -2,7 +2,6 @@
 use Prim.Native.Nat.{◌≤◌}
 use native.Mathlib.Omega.{arith}
 use lib.ListN.{length}
-use borrow.Author.Rules.{rules}
 use Rattle.lines.specs.Figures.{field}
 use Rattle.lines.proofs.Decimals.{word_length}
 use Rattle.script.specs.Parts.{field_room}

@@ -1,5 +1,4 @@
 -- `script::replies::put_reply` meets its contract: the kind of the call decides.
-use borrow.Author.Rules.{rules}
 use Rattle.script.proofs.replies.put_reply.Goals as goal
 
 pub returns-in-Submit : goal.returns-in-Submit

@@ -1,5 +1,4 @@
 -- `texts::forms::due_at` meets its contract, form by form.
-use borrow.Author.Rules.{rules}
 use Rattle.texts.proofs.forms.due_at.Goals as goal
 
 pub returns-in-Job : goal.returns-in-Job

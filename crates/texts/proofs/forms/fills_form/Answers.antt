@@ -1,24 +1,19 @@
 -- `texts::forms::fills_form` meets its contract: a turn tests one figure.
 use mathlib.Core.Path.{◌≡◌, sym, ◌∙◌}
 use mathlib.Core.Bool.{true}
-use mathlib.Core.List.{List, []}
-use Prim.Native.Nat.{ℕ, ◌-◌}
+use mathlib.Core.List.{[]}
+use Prim.Native.Nat.{ℕ}
 use native.Mathlib.Omega.{arith}
 use lib.ListN.{get_or}
-use borrow.Author.Rules.{rules}
 use Rattle.lines.specs.Lines.{takes}
 use Rattle.lines.specs.DueLines.{due_of}
 use Rattle.texts.specs.Stages.{form_at}
 use Rattle.texts.specs.Parts.{Asks}
 use Rattle.lines.proofs.LineLaws.{fits_takes}
 use Rattle.texts.proofs.Staged.{stage_asks, stage_done, ask_next}
-use Rattle.texts.proofs.Writing.{stage_filled, Walk, walk_none, walk_over, walk_unfit, walk_long, walk_more, walk_filled}
+use Rattle.texts.proofs.Writing.{stage_filled, walk_none, walk_over, walk_unfit, walk_long, walk_more, walk_filled}
 use Rattle.texts.proofs.forms.fills_form.Goals as goal
 use Rattle.texts.proofs.forms.fills_form.Goals.{After-due_at-due, Else-due-width}
-
--- The stops that the proof goes back to.
-
--- The stops: the start, a turn's test, the line that is due with the figure, and a figure that is fit.
 
 abbrev figure : After-due_at-due → ℕ
 figure c = get_or c.args.row.now c.loop-i.i 0

@@ -1,16 +1,13 @@
 -- `texts::forms::form_length` meets its contract: a turn counts the bytes of one line.
 use mathlib.Core.Path.{sym, ap, ◌∙◌}
-use Prim.Native.Nat.{◌+◌, ◌-◌, ◌≤◌}
+use Prim.Native.Nat.{◌+◌, ◌≤◌}
 use native.Mathlib.Omega.{arith}
 use lib.ListN.{length as long, get_or}
-use borrow.Author.Rules.{rules}
 use Rattle.texts.specs.Stages.{form_at}
 use Rattle.texts.proofs.Staged.{ask_next}
-use Rattle.texts.proofs.Writing.{Accepts, walk_due, walk_written, Measured, measured_none, longest_line, line_few, measured_more}
+use Rattle.texts.proofs.Writing.{Accepts, walk_due, walk_written, measured_none, longest_line, line_few, measured_more}
 use Rattle.texts.proofs.forms.form_length.Goals as goal
 use Rattle.texts.proofs.forms.form_length.Goals.{After-due_at-due, After-width}
-
--- The stops: the start, a turn's test, and the line that is due.
 
 accepts : (c : After-due_at-due) →
     Accepts

@@ -1,11 +1,6 @@
-use mathlib.Core.Path.{sym, ap, ◌∙◌}
-use Prim.Native.Nat.{◌+◌, ◌-◌, ◌≤◌}
-use native.Mathlib.Omega.{arith}
-use lib.ListN.{length as long, get_or}
-use borrow.Author.Rules.{rules}
+use Prim.Native.Nat.{◌-◌}
 use Rattle.texts.specs.Stages.{form_at}
-use Rattle.texts.proofs.Staged.{ask_next}
-use Rattle.texts.proofs.Writing.{Accepts, walk_due, walk_written, Measured, measured_none, longest_line, line_few, measured_more}
+use Rattle.texts.proofs.Writing.{Measured}
 use Rattle.texts.proofs.forms.form_length.Given as goal
 
 abbrev pub invariant-loop-i : goal.invariant-loop-i

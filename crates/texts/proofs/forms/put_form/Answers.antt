@@ -1,14 +1,10 @@
 -- `texts::forms::put_form` meets its contract: a turn writes one line.
-use Prim.Native.Nat.{◌-◌}
 use lib.ListN.{get_or}
-use borrow.Author.Rules.{rules}
 use Rattle.texts.specs.Stages.{form_at}
 use Rattle.texts.proofs.Staged.{ask_next}
-use Rattle.texts.proofs.Writing.{Accepts, walk_due, Wrote, wrote_none, wrote_room, wrote_more, wrote_all}
+use Rattle.texts.proofs.Writing.{Accepts, walk_due, wrote_none, wrote_room, wrote_more, wrote_all}
 use Rattle.texts.proofs.forms.put_form.Goals as goal
 use Rattle.texts.proofs.forms.put_form.Goals.{After-due_at-due}
-
--- The stops: the start, a turn's test, the line that is due, and that line written.
 
 accepts : (c : After-due_at-due) →
     Accepts

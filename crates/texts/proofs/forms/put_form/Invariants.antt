@@ -1,9 +1,6 @@
 use Prim.Native.Nat.{◌-◌}
-use lib.ListN.{get_or}
-use borrow.Author.Rules.{rules}
 use Rattle.texts.specs.Stages.{form_at}
-use Rattle.texts.proofs.Staged.{ask_next}
-use Rattle.texts.proofs.Writing.{Accepts, walk_due, Wrote, wrote_none, wrote_room, wrote_more, wrote_all}
+use Rattle.texts.proofs.Writing.{Wrote}
 use Rattle.texts.proofs.forms.put_form.Given as goal
 
 abbrev pub invariant-loop-i : goal.invariant-loop-i

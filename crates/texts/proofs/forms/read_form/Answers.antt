@@ -1,20 +1,16 @@
 -- `texts::forms::read_form` meets its contract: a turn reads one line, and its figure stands in the row.
 use mathlib.Core.Path.{sym, ◌∙◌}
-use Prim.Native.Nat.{◌-◌, ◌≤◌, ◌<◌}
+use Prim.Native.Nat.{◌≤◌, ◌<◌}
 use native.Mathlib.Omega.{arith}
 use lib.ListN.{length}
-use borrow.Author.Rules.{rules}
-use borrow.Author.Tests.{not-true, not-false}
 use Rattle.lines.specs.DueLines.{due_of}
 use Rattle.texts.specs.Stages.{form_at}
 use Rattle.lines.specs.Parts.{most_scanned}
 use Rattle.texts.specs.Parts.{Asks}
 use Rattle.texts.proofs.Staged.{stage_asks, stage_done, ask_next}
-use Rattle.texts.proofs.Reading.{said_read, said_refused, Took, took, ReadTo, read_none, read_room, read_more, read_stops, read_all}
+use Rattle.texts.proofs.Reading.{said_read, said_refused, Took, took, read_none, read_room, read_more, read_stops, read_all}
 use Rattle.texts.proofs.forms.read_form.Goals as goal
 use Rattle.texts.proofs.forms.read_form.Goals.{After-due_at-due, In-Read}
-
--- The stops: the start, the loop's head, the line that is due, and its answer.
 
 asked : (c : After-due_at-due) →
     Asks (form_at c.args.machines c.loop-stage.stage) c.due_at-due.result × (c.due_at-due.result.digits ≤ most_scanned)
@@ -32,7 +28,6 @@ line_read : (c : In-Read) →
 line_read c = took (said_read (sym c.in-Read.is ∙ c.read_line-line.ensures.answer_is))
 
 -- the figure has its place
-
 room : (c : In-Read) → c.loop-stage.count < length c.loop-stage.row
 room c = read_room c.loop-stage.invariant (asked (goal.at.In-Read c).After-due_at-due).0
 

@@ -1,15 +1,7 @@
-use mathlib.Core.Path.{sym, ◌∙◌}
-use Prim.Native.Nat.{◌-◌, ◌≤◌, ◌<◌}
-use native.Mathlib.Omega.{arith}
+use Prim.Native.Nat.{◌-◌}
 use lib.ListN.{length}
-use borrow.Author.Rules.{rules}
-use borrow.Author.Tests.{not-true, not-false}
-use Rattle.lines.specs.DueLines.{due_of}
 use Rattle.texts.specs.Stages.{form_at}
-use Rattle.lines.specs.Parts.{most_scanned}
-use Rattle.texts.specs.Parts.{Asks}
-use Rattle.texts.proofs.Staged.{stage_asks, stage_done, ask_next}
-use Rattle.texts.proofs.Reading.{said_read, said_refused, Took, took, ReadTo, read_none, read_room, read_more, read_stops, read_all}
+use Rattle.texts.proofs.Reading.{ReadTo}
 use Rattle.texts.proofs.forms.read_form.Given as goal
 
 abbrev pub invariant-loop-stage : goal.invariant-loop-stage

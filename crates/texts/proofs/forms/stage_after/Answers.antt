@@ -2,7 +2,6 @@
 use mathlib.Core.Path.{◌≡◌, ap, ◌∙◌, sym, subst}
 use Prim.Native.Nat.{ℕ}
 use native.Mathlib.Omega.{arith}
-use borrow.Author.Rules.{rules}
 use Rattle.texts.specs.Parts.{AskAfter}
 use Rattle.texts.specs.Stages.{form_at}
 use Rattle.texts.proofs.forms.stage_after.Goals as goal

@@ -1,7 +1,6 @@
 -- `texts::forms::write_form` meets its contract: the lines are measured, and written where they fit.
 use mathlib.Core.Path.{sym, subst}
 use native.Mathlib.Omega.{arith}
-use borrow.Author.Rules.{rules}
 use Rattle.texts.specs.Writer.{Writes}
 use Rattle.texts.proofs.Writers.{fits_written, short_unwritten}
 use Rattle.texts.proofs.forms.write_form.Goals as goal

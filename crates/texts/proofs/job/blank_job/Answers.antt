@@ -1,6 +1,5 @@
 -- `texts::job::blank_job` meets its contract.
 use mathlib.Core.Path.{refl}
-use borrow.Author.Rules.{rules}
 use Rattle.texts.proofs.job.blank_job.Goals as goal
 
 pub returns : goal.returns

@@ -1,15 +1,14 @@
 -- `texts::job::job_figures` meets its contract: three figures, one task in a turn, and the messages behind their count.
 use mathlib.Core.Path.{◌≡◌, ◌∙◌}
-use Prim.Native.Nat.{ℕ, ◌+◌, ◌-◌, ◌*◌, ◌≤◌, ◌<◌}
+use Prim.Native.Nat.{◌+◌, ◌*◌, ◌≤◌}
 use native.Mathlib.Omega.{arith}
 use lib.ListN.{length, get_or, length-take, length-set}
-use borrow.Author.Rules.{rules}
 use Rattle.rules.specs.Words.{most_tasks, most_machines, no_task}
 use Rattle.texts.specs.JobText.{head_size, task_size, task_figures}
 use Rattle.texts.specs.Rows.{most_figures}
 use Rattle.texts.proofs.Figured.{tasks_within}
 use Rattle.rules.proofs.Indexed.{length_mapped}
-use Rattle.texts.proofs.Laid.{one_more, Laid, laid_none, laid_within, laid_room, laid_more, laid_all, put_job}
+use Rattle.texts.proofs.Laid.{one_more, laid_none, laid_within, laid_room, laid_more, laid_all, put_job}
 use Rattle.texts.proofs.job.job_figures.Goals as goal
 use Rattle.texts.proofs.job.job_figures.Goals.{At-loop-t, Start}
 
@@ -17,7 +16,6 @@ within : (s : Start) → s.args.job.taskcount * task_size s.args.machines ≤ mo
 within s = tasks_within s.requires.machines_at_most s.requires.tasks_at_most
 
 -- the row keeps its length, and what is put in has its place
-
 row_long : (c : At-loop-t) → length c.loop-t.row ≡ most_figures
 row_long c = c.loop-t.invariant.0.long ∙ simp length-set c.requires.long
 

@@ -1,14 +1,9 @@
-use mathlib.Core.Path.{◌≡◌, ◌∙◌}
-use Prim.Native.Nat.{ℕ, ◌+◌, ◌-◌, ◌*◌, ◌≤◌, ◌<◌}
-use native.Mathlib.Omega.{arith}
-use lib.ListN.{length, get_or, length-take, length-set}
-use borrow.Author.Rules.{rules}
-use Rattle.rules.specs.Words.{most_tasks, most_machines, no_task}
+use mathlib.Core.Path.{◌≡◌}
+use Prim.Native.Nat.{ℕ, ◌-◌, ◌<◌}
+use lib.ListN.{length, get_or}
+use Rattle.rules.specs.Words.{most_machines, no_task}
 use Rattle.texts.specs.JobText.{head_size, task_size, task_figures}
-use Rattle.texts.specs.Rows.{most_figures}
-use Rattle.texts.proofs.Figured.{tasks_within}
-use Rattle.rules.proofs.Indexed.{length_mapped}
-use Rattle.texts.proofs.Laid.{one_more, Laid, laid_none, laid_within, laid_room, laid_more, laid_all, put_job}
+use Rattle.texts.proofs.Laid.{Laid}
 use Rattle.texts.proofs.job.job_figures.Given as goal
 
 abbrev pub invariant-loop-t : goal.invariant-loop-t

@@ -3,7 +3,6 @@ use mathlib.Core.Path.{refl}
 use Prim.Native.Nat.{◌*◌, ◌≤◌}
 use native.Mathlib.Omega.{arith}
 use lib.ListN.{get_or}
-use borrow.Author.Rules.{rules}
 use Rattle.rules.specs.Words.{most_tasks, most_machines}
 use Rattle.texts.specs.JobText.{task_size}
 use Rattle.texts.proofs.Figured.{tasks_within}
@@ -11,7 +10,6 @@ use Rattle.texts.proofs.job.job_of.Goals as goal
 use Rattle.texts.proofs.job.job_of.Goals.{Start}
 
 -- the tasks' figures leave room for those of the messages
-
 within : (s : Start) → get_or s.args.row.now 2 0 * task_size s.args.machines ≤ most_tasks * task_size most_machines
 within s = tasks_within s.requires.machines_at_most s.requires.tasks_at_most
 

@@ -1,6 +1,5 @@
 -- `texts::job::message_at` meets its contract: the message's three figures are those of its group.
 use Prim.Native.Nat.{◌+◌, ◌*◌}
-use borrow.Author.Rules.{rules}
 use Rattle.texts.specs.JobText.{message_size}
 use Rattle.texts.proofs.Figured.{message_there}
 use Rattle.texts.proofs.job.message_at.Goals as goal

@@ -1,9 +1,7 @@
 -- `texts::job::messages_in` meets its contract: one message is cut in a turn.
-use Prim.Native.Nat.{◌-◌}
-use borrow.Author.Rules.{rules}
 use Rattle.rules.specs.Words.{most_messages}
 use Rattle.texts.specs.JobText.{message_said, message_size, message_of_zeros}
-use Rattle.texts.proofs.Figured.{Filled, filled_none, filled_more, filled_all}
+use Rattle.texts.proofs.Figured.{filled_none, filled_more, filled_all}
 use Rattle.texts.proofs.job.messages_in.Goals as goal
 
 pub loop-i-init : goal.loop-i-init

@@ -1,7 +1,6 @@
 -- `texts::job::put_message` meets its contract: three figures, one after the other.
 use native.Mathlib.Omega.{arith}
 use lib.ListN.{length-set}
-use borrow.Author.Rules.{rules}
 use Rattle.texts.proofs.Laid.{put_three}
 use Rattle.texts.proofs.job.put_message.Goals as goal
 

@@ -1,17 +1,13 @@
 -- `texts::job::put_messages` meets its contract: one message is put in a turn.
 use mathlib.Core.Path.{◌≡◌}
-use Prim.Native.Nat.{◌-◌}
 use native.Mathlib.Omega.{arith}
 use lib.ListN.{length}
-use borrow.Author.Rules.{rules}
 use Rattle.rules.specs.Words.{most_messages}
 use Rattle.texts.specs.JobText.{message_size, message_figures, message_of_zeros}
 use Rattle.rules.proofs.Indexed.{length_mapped}
-use Rattle.texts.proofs.Laid.{Laid, laid_none, laid_room, laid_more, laid_all}
+use Rattle.texts.proofs.Laid.{laid_none, laid_room, laid_more, laid_all}
 use Rattle.texts.proofs.job.put_messages.Goals as goal
 use Rattle.texts.proofs.job.put_messages.Goals.{Start}
-
--- The stops: the start, and the loop's head.
 
 messages_long : (s : Start) → length s.args.job.messages ≡ most_messages
 messages_long s = search length_mapped

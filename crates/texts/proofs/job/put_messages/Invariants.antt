@@ -1,12 +1,6 @@
-use mathlib.Core.Path.{◌≡◌}
 use Prim.Native.Nat.{◌-◌}
-use native.Mathlib.Omega.{arith}
-use lib.ListN.{length}
-use borrow.Author.Rules.{rules}
-use Rattle.rules.specs.Words.{most_messages}
-use Rattle.texts.specs.JobText.{message_size, message_figures, message_of_zeros}
-use Rattle.rules.proofs.Indexed.{length_mapped}
-use Rattle.texts.proofs.Laid.{Laid, laid_none, laid_room, laid_more, laid_all}
+use Rattle.texts.specs.JobText.{message_size, message_figures}
+use Rattle.texts.proofs.Laid.{Laid}
 use Rattle.texts.proofs.job.put_messages.Given as goal
 
 abbrev pub invariant-loop-i : goal.invariant-loop-i

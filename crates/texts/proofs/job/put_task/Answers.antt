@@ -1,18 +1,17 @@
 -- `texts::job::put_task` meets its contract: one run time is copied in a turn.
 use mathlib.Core.Path.{◌≡◌, ◌∙◌}
-use Prim.Native.Nat.{◌+◌, ◌-◌}
+use Prim.Native.Nat.{◌+◌}
 use native.Mathlib.Omega.{arith}
 use lib.ListN.{length, take, length-set}
 use lib.Seq.{length-take-le, get_or-take}
 use borrow.Author.Rules.{rules}
 use Rattle.rules.specs.Words.{most_machines}
-use Rattle.lines.proofs.Put.{Copied, copied_none, copied_more}
+use Rattle.lines.proofs.Put.{copied_none, copied_more}
 use Rattle.texts.proofs.Laid.{put_runs}
 use Rattle.texts.proofs.job.put_task.Goals as goal
 use Rattle.texts.proofs.job.put_task.Goals.{At-loop-m, Start}
 
 -- every machine has its run time, and the row keeps its length
-
 runs_long : (s : Start) → length s.args.task.runs ≡ most_machines
 runs_long s = search rules
 

@@ -1,12 +1,6 @@
-use mathlib.Core.Path.{◌≡◌, ◌∙◌}
 use Prim.Native.Nat.{◌+◌, ◌-◌}
-use native.Mathlib.Omega.{arith}
-use lib.ListN.{length, take, length-set}
-use lib.Seq.{length-take-le, get_or-take}
-use borrow.Author.Rules.{rules}
-use Rattle.rules.specs.Words.{most_machines}
-use Rattle.lines.proofs.Put.{Copied, copied_none, copied_more}
-use Rattle.texts.proofs.Laid.{put_runs}
+use lib.ListN.{take}
+use Rattle.lines.proofs.Put.{Copied}
 use Rattle.texts.proofs.job.put_task.Given as goal
 
 abbrev pub invariant-loop-m : goal.invariant-loop-m

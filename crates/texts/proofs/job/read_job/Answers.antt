@@ -1,5 +1,4 @@
 -- `texts::job::read_job` meets its contract: the default table has as many machines as the code says.
-use borrow.Author.Rules.{rules}
 use Rattle.rules.specs.Words.{setup_by_default}
 use Rattle.texts.proofs.job.read_job.Goals as goal
 

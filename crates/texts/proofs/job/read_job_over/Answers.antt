@@ -1,10 +1,7 @@
 -- `texts::job::read_job_over` meets its contract: the figures that were read say the job, and a refusal leaves the blank one.
 use mathlib.Core.Path.{◌∙◌}
-use borrow.Author.Rules.{rules}
 use Rattle.texts.proofs.Figured.{job_room, row_read, blank_read, job_read}
 use Rattle.texts.proofs.job.read_job_over.Goals as goal
-
--- The stops: the start, and the form's answer, which read or refused.
 
 pub read_form-reading-requires : goal.read_form-reading-requires
 read_form-reading-requires c =

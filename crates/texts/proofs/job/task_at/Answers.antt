@@ -1,16 +1,14 @@
 -- `texts::job::task_at` meets its contract: one run time is taken in a turn.
 use mathlib.Core.Path.{refl}
-use Prim.Native.Nat.{◌+◌, ◌-◌, ◌*◌, ◌≤◌}
+use Prim.Native.Nat.{◌*◌, ◌≤◌}
 use native.Mathlib.Omega.{arith}
-use borrow.Author.Rules.{rules}
 use Rattle.rules.specs.Words.{most_tasks, most_machines}
 use Rattle.texts.specs.JobText.{task_size}
-use Rattle.texts.proofs.Figured.{tasks_within, Filled, filled_none, filled_more, single, single_at, task_there}
+use Rattle.texts.proofs.Figured.{tasks_within, filled_none, filled_more, single, single_at, task_there}
 use Rattle.texts.proofs.job.task_at.Goals as goal
 use Rattle.texts.proofs.job.task_at.Goals.{Start}
 
 -- the task's figures lie within the row
-
 within : (s : Start) → s.args.index * task_size s.args.machines ≤ most_tasks * task_size most_machines
 within s = tasks_within s.requires.machines_at_most (omega arith)
 

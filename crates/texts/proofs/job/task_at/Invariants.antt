@@ -1,10 +1,6 @@
-use mathlib.Core.Path.{refl}
-use Prim.Native.Nat.{◌+◌, ◌-◌, ◌*◌, ◌≤◌}
-use native.Mathlib.Omega.{arith}
-use borrow.Author.Rules.{rules}
-use Rattle.rules.specs.Words.{most_tasks, most_machines}
-use Rattle.texts.specs.JobText.{task_size}
-use Rattle.texts.proofs.Figured.{tasks_within, Filled, filled_none, filled_more, single, single_at, task_there}
+use Prim.Native.Nat.{◌+◌, ◌-◌}
+use Rattle.rules.specs.Words.{most_machines}
+use Rattle.texts.proofs.Figured.{Filled, single}
 use Rattle.texts.proofs.job.task_at.Given as goal
 
 abbrev pub invariant-loop-m : goal.invariant-loop-m

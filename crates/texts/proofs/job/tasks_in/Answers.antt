@@ -1,9 +1,7 @@
 -- `texts::job::tasks_in` meets its contract: one task is cut in a turn.
-use Prim.Native.Nat.{◌-◌}
-use borrow.Author.Rules.{rules}
 use Rattle.rules.specs.Words.{most_tasks}
 use Rattle.texts.specs.JobText.{head_size, task_said, task_size, task_of_zeros}
-use Rattle.texts.proofs.Figured.{Filled, filled_none, filled_more, filled_all}
+use Rattle.texts.proofs.Figured.{filled_none, filled_more, filled_all}
 use Rattle.texts.proofs.job.tasks_in.Goals as goal
 
 pub loop-i-init : goal.loop-i-init

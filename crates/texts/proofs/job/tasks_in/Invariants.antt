@@ -1,8 +1,7 @@
 use Prim.Native.Nat.{◌-◌}
-use borrow.Author.Rules.{rules}
 use Rattle.rules.specs.Words.{most_tasks}
 use Rattle.texts.specs.JobText.{head_size, task_said, task_size, task_of_zeros}
-use Rattle.texts.proofs.Figured.{Filled, filled_none, filled_more, filled_all}
+use Rattle.texts.proofs.Figured.{Filled}
 use Rattle.texts.proofs.job.tasks_in.Given as goal
 
 abbrev pub invariant-loop-i : goal.invariant-loop-i

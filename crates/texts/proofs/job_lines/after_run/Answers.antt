@@ -2,7 +2,6 @@
 use mathlib.Core.Path.{◌≡◌, refl}
 use Prim.Native.Nat.{suc, ◌-◌}
 use native.Mathlib.Omega.{arith}
-use borrow.Author.Rules.{rules}
 use Rattle.texts.specs.JobText.{run_lines, tasks_lines}
 use Rattle.texts.proofs.job_lines.after_run.Goals as goal
 

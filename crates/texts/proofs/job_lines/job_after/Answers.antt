@@ -2,7 +2,6 @@
 use mathlib.Core.Path.{◌≡◌, refl, ap}
 use Prim.Native.Nat.{suc, ◌-◌, ◌≤◌}
 use native.Mathlib.Omega.{arith}
-use borrow.Author.Rules.{rules}
 use Rattle.rules.specs.Words.{most_tasks}
 use Rattle.lines.specs.Figures.{bytes}
 use Rattle.texts.specs.JobText.{run_lines, tasks_lines, messages_lines}
@@ -13,7 +12,6 @@ use Rattle.texts.proofs.job_lines.job_after.Goals as goal
 use Rattle.texts.proofs.job_lines.job_after.Goals.{In-Tasks}
 
 -- there is a task
-
 some_task : (c : In-Tasks) → 1 ≤ c.args.figure
 some_task c =
     (taken_between (bytes "tasks=") 1 most_tasks c.args.figure (c.requires.taken _ _ (ap (job_at c.args.machines) c.in-Tasks.is))).0

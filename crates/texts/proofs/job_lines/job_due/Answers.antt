@@ -1,6 +1,5 @@
 -- `texts::job_lines::job_due` meets its contract: each line is the one that its form asks.
 use mathlib.Core.Path.{refl}
-use borrow.Author.Rules.{rules}
 use Rattle.texts.specs.JobText.{run_lines, tasks_lines, messages_lines}
 use Rattle.texts.proofs.JobForm.{due_is}
 use Rattle.texts.proofs.job_lines.job_due.Goals as goal

@@ -1,6 +1,5 @@
 -- `texts::writer::write_figures` meets its contract: what fills the form is written, and all else is refused before the room is asked.
 use mathlib.Core.Path.{sym, ◌∙◌}
-use borrow.Author.Rules.{rules}
 use Rattle.texts.proofs.JobWriting.{filled_few, filled_written, unfit_unwritten}
 use Rattle.texts.proofs.writer.write_figures.Goals as goal
 

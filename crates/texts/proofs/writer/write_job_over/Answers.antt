@@ -23,8 +23,6 @@ returns-then-job-2 c =
     let a = c.args in
     unfit_unwritten (written_job a.machines a.job) _ (many_messages a.machines a.job c.if-job-2.true) c.unwritten-then-job-2.ensures
 
--- The stops: the tests of the counts, and the start.
-
 tasks_long : (s : Start) → length s.args.job.tasks ≡ most_tasks
 tasks_long s = search length_mapped
 
@@ -32,7 +30,6 @@ messages_long : (s : Start) → length s.args.job.messages ≡ most_messages
 messages_long s = search length_mapped
 
 -- the arrays of the job have their lengths
-
 sized : (c : After-job_figures-count) → Sized c.args.machines c.args.job
 sized c =
     record {

@@ -1,8 +1,6 @@
 -- `timeline::beside::least_beside` meets its contract: each turn finds a later tick, and none before it is free in both timelines.
 use native.Mathlib.Omega.{arith}
-use Prim.Native.Nat.{◌-◌}
-use Rattle.timeline.specs.Timeline.{tick_limit}
-use Rattle.timeline.proofs.Agreeing.{Turned, asks_own, asks_other, own_at_most, turned_first, turned_more, turned_later, turned_end}
+use Rattle.timeline.proofs.Agreeing.{asks_own, asks_other, own_at_most, turned_first, turned_more, turned_later, turned_end}
 use Rattle.timeline.proofs.beside.least_beside.Goals as goal
 
 pub least_free-found-requires : goal.least_free-found-requires

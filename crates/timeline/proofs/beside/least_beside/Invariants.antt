@@ -1,7 +1,6 @@
-use native.Mathlib.Omega.{arith}
 use Prim.Native.Nat.{◌-◌}
 use Rattle.timeline.specs.Timeline.{tick_limit}
-use Rattle.timeline.proofs.Agreeing.{Turned, asks_own, asks_other, own_at_most, turned_first, turned_more, turned_later, turned_end}
+use Rattle.timeline.proofs.Agreeing.{Turned}
 use Rattle.timeline.proofs.beside.least_beside.Given as goal
 
 abbrev pub invariant-loop-found : goal.invariant-loop-found

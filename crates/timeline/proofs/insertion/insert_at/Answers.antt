@@ -1,6 +1,6 @@
 -- `timeline::insertion::insert_at` meets its contract: from i on all stand one place further.
 use native.Mathlib.Omega.{arith}
-use Rattle.timeline.proofs.Inserted.{Shifted, moved_none, moved_more, moved_put}
+use Rattle.timeline.proofs.Inserted.{moved_none, moved_more, moved_put}
 use Rattle.timeline.proofs.insertion.insert_at.Goals as goal
 
 pub loop-i-preserved : goal.loop-i-preserved

@@ -1,5 +1,4 @@
-use native.Mathlib.Omega.{arith}
-use Rattle.timeline.proofs.Inserted.{Shifted, moved_none, moved_more, moved_put}
+use Rattle.timeline.proofs.Inserted.{Shifted}
 use Rattle.timeline.proofs.insertion.insert_job.Given as goal
 
 abbrev pub invariant-loop-i : goal.invariant-loop-i

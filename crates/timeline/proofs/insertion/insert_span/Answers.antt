@@ -1,5 +1,4 @@
 -- `timeline::insertion::insert_span` meets its contract.
-use borrow.Author.Rules.{rules}
 use Rattle.timeline.proofs.Grown.{span_put}
 use Rattle.timeline.proofs.insertion.insert_span.Goals as goal
 

@@ -1,7 +1,6 @@
 -- `timeline::insertion::remove_at` meets its contract: from the index up to i each has what stood behind it.
 use native.Mathlib.Omega.{arith}
-use Prim.Native.Nat.{◌-◌}
-use Rattle.timeline.proofs.Closed.{Closed, closed_none, closed_more, closed_all}
+use Rattle.timeline.proofs.Closed.{closed_none, closed_more, closed_all}
 use Rattle.timeline.proofs.insertion.remove_at.Goals as goal
 
 pub loop-i-preserved : goal.loop-i-preserved

@@ -1,6 +1,5 @@
-use native.Mathlib.Omega.{arith}
 use Prim.Native.Nat.{◌-◌}
-use Rattle.timeline.proofs.Closed.{Closed, closed_none, closed_more, closed_all}
+use Rattle.timeline.proofs.Closed.{Closed}
 use Rattle.timeline.proofs.insertion.remove_at.Given as goal
 
 abbrev pub invariant-loop-i : goal.invariant-loop-i

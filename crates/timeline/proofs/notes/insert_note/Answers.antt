@@ -1,8 +1,6 @@
 -- `timeline::notes::insert_note` meets its contract: from i on all figures stand a note further.
 use native.Mathlib.Omega.{arith}
-use Prim.Native.Nat.{◌*◌}
-use Rattle.timeline.specs.RowLine.{note_size}
-use Rattle.timeline.proofs.Inserted.{Shifted, noted_none, noted_more, put_asked, noted_put}
+use Rattle.timeline.proofs.Inserted.{noted_none, noted_more, put_asked, noted_put}
 use Rattle.timeline.proofs.notes.insert_note.Goals as goal
 
 pub loop-i-preserved : goal.loop-i-preserved

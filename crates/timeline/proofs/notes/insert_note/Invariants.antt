@@ -1,7 +1,6 @@
-use native.Mathlib.Omega.{arith}
 use Prim.Native.Nat.{◌*◌}
 use Rattle.timeline.specs.RowLine.{note_size}
-use Rattle.timeline.proofs.Inserted.{Shifted, noted_none, noted_more, put_asked, noted_put}
+use Rattle.timeline.proofs.Inserted.{Shifted}
 use Rattle.timeline.proofs.notes.insert_note.Given as goal
 
 abbrev pub invariant-loop-i : goal.invariant-loop-i

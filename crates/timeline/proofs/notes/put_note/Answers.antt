@@ -1,6 +1,5 @@
 -- `timeline::notes::put_note` meets its contract.
 use native.Mathlib.Omega.{arith}
-use borrow.Author.Rules.{rules}
 use lib.ListN.{length-set}
 use Rattle.timeline.proofs.notes.put_note.Goals as goal
 

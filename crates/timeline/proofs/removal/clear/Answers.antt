@@ -1,7 +1,6 @@
 -- `timeline::removal::clear` meets its contract: from the index on up to i every entry is blank, and all else is as before.
 use native.Mathlib.Omega.{arith}
-use Prim.Native.Nat.{◌-◌}
-use Rattle.timeline.proofs.Clearing.{Clearing, clearing_none, note_asked, clearing_more, clearing_all}
+use Rattle.timeline.proofs.Clearing.{clearing_none, note_asked, clearing_more, clearing_all}
 use Rattle.timeline.proofs.removal.clear.Goals as goal
 
 pub put_note-requires : goal.put_note-requires

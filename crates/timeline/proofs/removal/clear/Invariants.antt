@@ -1,6 +1,5 @@
-use native.Mathlib.Omega.{arith}
 use Prim.Native.Nat.{◌-◌}
-use Rattle.timeline.proofs.Clearing.{Clearing, clearing_none, note_asked, clearing_more, clearing_all}
+use Rattle.timeline.proofs.Clearing.{Clearing}
 use Rattle.timeline.proofs.removal.clear.Given as goal
 
 abbrev pub invariant-loop-i : goal.invariant-loop-i

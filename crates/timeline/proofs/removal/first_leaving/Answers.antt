@@ -1,8 +1,6 @@
 -- `timeline::removal::first_leaving` meets its contract: none before i leaves.
 use native.Mathlib.Omega.{arith}
 use borrow.Author.Count.{below_more}
-use Prim.Native.Nat.{◌-◌}
-use Rattle.timeline.specs.TakenOut.{FirstLeaving}
 use Rattle.timeline.proofs.removal.first_leaving.Goals as goal
 
 pub loop-i-preserved : goal.loop-i-preserved

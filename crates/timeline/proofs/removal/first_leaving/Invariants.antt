@@ -1,5 +1,3 @@
-use native.Mathlib.Omega.{arith}
-use borrow.Author.Count.{below_more}
 use Prim.Native.Nat.{◌-◌}
 use Rattle.timeline.specs.TakenOut.{FirstLeaving}
 use Rattle.timeline.proofs.removal.first_leaving.Given as goal

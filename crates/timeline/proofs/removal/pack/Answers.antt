@@ -1,12 +1,8 @@
 -- `timeline::removal::pack` meets its contract: of the first i entries those that stay stand at the front, and from i on all are as before.
-use mathlib.Core.Logic.{⊎_elim}
 use native.Mathlib.Omega.{arith}
-use Prim.Native.Nat.{◌-◌}
-use Rattle.timeline.proofs.Packed.{Packing, packing_is, packing_none, note_there, cost_few, packing_goes, packing_stays, packing_all}
+use Rattle.timeline.proofs.Packed.{packing_is, packing_none, note_there, cost_few, packing_goes, packing_stays, packing_all}
 use Rattle.timeline.proofs.removal.pack.Goals as goal
 use Rattle.timeline.proofs.removal.pack.Goals.{else-leaves-i, then-leaves-i}
-
--- What has gone before: the call, a turn of the loop, and the note that it reads.
 
 pub note_at-note-requires : goal.note_at-note-requires
 note_at-note-requires c =
@@ -27,9 +23,9 @@ loop-i-preserved c =
     let more = c.loop-i-test.true in
     let is = c.note_at-note.ensures in
     elim c.if-leaves-i.branch [
-        then-leaves-i w ↦ packing_is w.begins-is w.ends-is w.jobs-is w.notes-is w.kept-is w.cost-is (packing_goes asked c.loop-i.invariant more is w.if-leaves-i.true)
-        | else-leaves-i w ↦ packing_is w.begins-is w.ends-is w.jobs-is w.notes-is w.kept-is w.cost-is (packing_stays asked c.loop-i.invariant more is w.if-leaves-i.false w.put_note.ensures)
-        ]
+      | then-leaves-i w ↦ packing_is w.begins-is w.ends-is w.jobs-is w.notes-is w.kept-is w.cost-is (packing_goes asked c.loop-i.invariant more is w.if-leaves-i.true)
+      | else-leaves-i w ↦ packing_is w.begins-is w.ends-is w.jobs-is w.notes-is w.kept-is w.cost-is (packing_stays asked c.loop-i.invariant more is w.if-leaves-i.false w.put_note.ensures)
+    ]
 
 pub loop-i-init : goal.loop-i-init
 loop-i-init c = packing_none c.requires

@@ -1,7 +1,5 @@
-use mathlib.Core.Logic.{⊎_elim}
-use native.Mathlib.Omega.{arith}
 use Prim.Native.Nat.{◌-◌}
-use Rattle.timeline.proofs.Packed.{Packing, packing_is, packing_none, note_there, cost_few, packing_goes, packing_stays, packing_all}
+use Rattle.timeline.proofs.Packed.{Packing}
 use Rattle.timeline.proofs.removal.pack.Given as goal
 
 abbrev pub invariant-loop-i : goal.invariant-loop-i

@@ -4,8 +4,6 @@ use Rattle.timeline.proofs.Packed.{clear_asked}
 use Rattle.timeline.proofs.Remaining.{taken_out}
 use Rattle.timeline.proofs.removal.take_out.Goals as goal
 
--- What has gone before: the call, and the two passes.
-
 pub clear-requires : goal.clear-requires
 clear-requires c =
     clear_asked c.requires c.pack-left.ensures

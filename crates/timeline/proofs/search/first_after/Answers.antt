@@ -1,7 +1,6 @@
 -- `timeline::search::first_after` meets its contract: each turn leaves the first span that ends later between `low` and `high`.
 use native.Mathlib.Omega.{arith}
-use Prim.Native.Nat.{◌-◌}
-use Rattle.timeline.proofs.Walks.{Halved, halved_none, halved_up, halved_down, halved_all}
+use Rattle.timeline.proofs.Walks.{halved_none, halved_up, halved_down, halved_all}
 use Rattle.timeline.proofs.search.first_after.Goals as goal
 
 pub loop-low-init : goal.loop-low-init

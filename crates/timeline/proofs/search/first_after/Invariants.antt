@@ -1,6 +1,5 @@
-use native.Mathlib.Omega.{arith}
 use Prim.Native.Nat.{◌-◌}
-use Rattle.timeline.proofs.Walks.{Halved, halved_none, halved_up, halved_down, halved_all}
+use Rattle.timeline.proofs.Walks.{Halved}
 use Rattle.timeline.proofs.search.first_after.Given as goal
 
 abbrev pub invariant-loop-low : goal.invariant-loop-low

@@ -1,7 +1,6 @@
 -- `timeline::search::first_gap` meets its contract: up to the span i all are passed.
 use native.Mathlib.Omega.{arith}
-use Prim.Native.Nat.{◌-◌}
-use Rattle.timeline.proofs.Walks.{Walked, walked_none, walked_more, walked_stop}
+use Rattle.timeline.proofs.Walks.{walked_none, walked_more, walked_stop}
 use Rattle.timeline.proofs.search.first_gap.Goals as goal
 
 pub loop-i-init : goal.loop-i-init

@@ -1,6 +1,5 @@
-use native.Mathlib.Omega.{arith}
 use Prim.Native.Nat.{◌-◌}
-use Rattle.timeline.proofs.Walks.{Walked, walked_none, walked_more, walked_stop}
+use Rattle.timeline.proofs.Walks.{Walked}
 use Rattle.timeline.proofs.search.first_gap.Given as goal
 
 abbrev pub invariant-loop-i : goal.invariant-loop-i

@@ -1,5 +1,4 @@
 -- `timeline::search::least_free` meets its contract: the place found is the least free tick of every resource with the number.
-use borrow.Author.Rules.{rules}
 use Rattle.timeline.proofs.Walks.{gap_asked}
 use Rattle.timeline.proofs.Found.{found_least}
 use Rattle.timeline.proofs.search.least_free.Goals as goal

@@ -1,9 +1,6 @@
 -- `timetable::held::has_begun` meets its contract: no row passed is of the job and has begun.
-use mathlib.Core.Logic.{⊎_elim}
-use Prim.Native.Nat.{◌-◌}
 use native.Mathlib.Omega.{arith}
-use borrow.Author.Tests.{leb-true, leb-false}
-use Rattle.timetable.proofs.Carried.{NoneBegun, begun_none, begun_here, begun_past, begun_all}
+use Rattle.timetable.proofs.Carried.{begun_none, begun_here, begun_past, begun_all}
 use Rattle.timetable.proofs.held.has_begun.Goals as goal
 use Rattle.timetable.proofs.held.has_begun.Goals.{else-jobs-i-via-then-jobs-i+else-begins-i, else-jobs-i-via-else-jobs-i}
 
@@ -14,9 +11,9 @@ returns-then-begins-i c =
 pub loop-i-preserved : goal.loop-i-preserved
 loop-i-preserved c =
     elim c.else-jobs-i.branch [
-        else-jobs-i-via-then-jobs-i+else-begins-i w ↦ begun_past c.loop-i.invariant c.loop-i-test.true (λ same. w.if-begins-i.false)
-        | else-jobs-i-via-else-jobs-i w ↦ begun_past c.loop-i.invariant c.loop-i-test.true (λ same. absurd (w.if-jobs-i.false same))
-        ]
+      | else-jobs-i-via-then-jobs-i+else-begins-i w ↦ begun_past c.loop-i.invariant c.loop-i-test.true (λ same. w.if-begins-i.false)
+      | else-jobs-i-via-else-jobs-i w ↦ begun_past c.loop-i.invariant c.loop-i-test.true (λ same. absurd (w.if-jobs-i.false same))
+    ]
 
 pub returns : goal.returns
 returns c = begun_all c.loop-i.invariant c.loop-i-test.false

@@ -1,8 +1,5 @@
-use mathlib.Core.Logic.{⊎_elim}
 use Prim.Native.Nat.{◌-◌}
-use native.Mathlib.Omega.{arith}
-use borrow.Author.Tests.{leb-true, leb-false}
-use Rattle.timetable.proofs.Carried.{NoneBegun, begun_none, begun_here, begun_past, begun_all}
+use Rattle.timetable.proofs.Carried.{NoneBegun}
 use Rattle.timetable.proofs.held.has_begun.Given as goal
 
 abbrev pub invariant-loop-i : goal.invariant-loop-i

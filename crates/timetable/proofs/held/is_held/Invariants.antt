@@ -1,7 +1,5 @@
-use mathlib.Core.Logic.{⊎_elim}
 use Prim.Native.Nat.{◌-◌}
-use native.Mathlib.Omega.{arith}
-use Rattle.timetable.proofs.Carried.{Looked, looked_none, looked_here, looked_past, looked_all}
+use Rattle.timetable.proofs.Carried.{Looked}
 use Rattle.timetable.proofs.held.is_held.Given as goal
 
 abbrev pub invariant-loop-i : goal.invariant-loop-i

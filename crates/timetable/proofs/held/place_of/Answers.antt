@@ -1,7 +1,6 @@
 -- `timetable::held::place_of` meets its contract: none of the rows passed carries the number.
-use Prim.Native.Nat.{◌-◌}
 use native.Mathlib.Omega.{arith}
-use Rattle.timetable.proofs.Carried.{NoneCarries, none_yet, none_carries, this_carries, passes_on}
+use Rattle.timetable.proofs.Carried.{none_yet, none_carries, this_carries, passes_on}
 use Rattle.timetable.proofs.held.place_of.Goals as goal
 
 pub returns-then-jobs-i : goal.returns-then-jobs-i

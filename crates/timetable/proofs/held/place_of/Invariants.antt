@@ -1,6 +1,5 @@
 use Prim.Native.Nat.{◌-◌}
-use native.Mathlib.Omega.{arith}
-use Rattle.timetable.proofs.Carried.{NoneCarries, none_yet, none_carries, this_carries, passes_on}
+use Rattle.timetable.proofs.Carried.{NoneCarries}
 use Rattle.timetable.proofs.held.place_of.Given as goal
 
 abbrev pub invariant-loop-i : goal.invariant-loop-i

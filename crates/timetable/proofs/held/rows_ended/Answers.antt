@@ -1,11 +1,9 @@
 -- `timetable::held::rows_ended` meets its contract: the first i entries say which rows are of jobs that have ended.
 use mathlib.Core.Path.{refl, ap}
-use Prim.Native.Nat.{◌-◌}
 use native.Mathlib.Omega.{arith}
 use lib.Dec.{leb}
-use Rattle.timeline.specs.Notes.{nth_note}
 use Rattle.timetable.proofs.Noted.{last_at}
-use Rattle.timetable.proofs.Marked.{Marked, marked_none, marked_more, marked_all}
+use Rattle.timetable.proofs.Marked.{marked_none, marked_more, marked_all}
 use Rattle.timetable.proofs.held.rows_ended.Goals as goal
 
 pub note_at-note-requires : goal.note_at-note-requires

@@ -1,10 +1,7 @@
-use mathlib.Core.Path.{refl, ap}
 use Prim.Native.Nat.{◌-◌}
-use native.Mathlib.Omega.{arith}
 use lib.Dec.{leb}
 use Rattle.timeline.specs.Notes.{nth_note}
-use Rattle.timetable.proofs.Noted.{last_at}
-use Rattle.timetable.proofs.Marked.{Marked, marked_none, marked_more, marked_all}
+use Rattle.timetable.proofs.Marked.{Marked}
 use Rattle.timetable.proofs.held.rows_ended.Given as goal
 
 abbrev pub invariant-loop-i : goal.invariant-loop-i

@@ -1,12 +1,10 @@
 -- `timetable::held::rows_of` meets its contract: the first i entries say which rows are the job's.
 use mathlib.Core.Path.{refl, ap}
-use Prim.Native.Nat.{◌-◌}
 use native.Mathlib.Omega.{arith}
 use lib.Dec.{eqb}
-use lib.ListN.{get_or}
 use Rattle.rules.specs.Words.{of_job}
 use Rattle.timetable.proofs.Carried.{job_at}
-use Rattle.timetable.proofs.Marked.{Marked, marked_none, marked_more, marked_all}
+use Rattle.timetable.proofs.Marked.{marked_none, marked_more, marked_all}
 use Rattle.timetable.proofs.held.rows_of.Goals as goal
 
 pub loop-i-preserved : goal.loop-i-preserved

@@ -1,11 +1,7 @@
-use mathlib.Core.Path.{refl, ap}
 use Prim.Native.Nat.{◌-◌}
-use native.Mathlib.Omega.{arith}
 use lib.Dec.{eqb}
 use lib.ListN.{get_or}
-use Rattle.rules.specs.Words.{of_job}
-use Rattle.timetable.proofs.Carried.{job_at}
-use Rattle.timetable.proofs.Marked.{Marked, marked_none, marked_more, marked_all}
+use Rattle.timetable.proofs.Marked.{Marked}
 use Rattle.timetable.proofs.held.rows_of.Given as goal
 
 abbrev pub invariant-loop-i : goal.invariant-loop-i

@@ -1,10 +1,7 @@
 -- `timetable::held::soonest_of` meets its contract: it is the soonest of the rows passed.
-use mathlib.Core.Logic.{⊎_elim}
-use Prim.Native.Nat.{◌-◌}
 use native.Mathlib.Omega.{arith}
-use Rattle.timeline.specs.Notes.{nth_note}
 use Rattle.timetable.proofs.Noted.{last_at}
-use Rattle.timetable.proofs.Extremes.{SoonestSo, soonest_none, soonest_here, soonest_past, soonest_all}
+use Rattle.timetable.proofs.Extremes.{soonest_none, soonest_here, soonest_past, soonest_all}
 use Rattle.timetable.proofs.held.soonest_of.Goals as goal
 use Rattle.timetable.proofs.held.soonest_of.Goals.{else-note-soonest, then-note-soonest}
 
@@ -14,11 +11,11 @@ note_at-note-requires c = record { long = c.requires.long; there = omega arith }
 pub loop-i-preserved : goal.loop-i-preserved
 loop-i-preserved c =
     elim c.if-note-soonest.branch [
-        then-note-soonest w ↦ rw
-    (w.soonest-is, c.note_at-note.ensures)
-    (soonest_here c.loop-i.invariant c.loop-i-test.true (rw c.note_at-note.ensures at w.if-note-soonest.true))
-        | else-note-soonest w ↦ rw w.soonest-is (soonest_past c.loop-i.invariant c.loop-i-test.true (rw c.note_at-note.ensures at w.if-note-soonest.false))
-        ]
+      | then-note-soonest w ↦ rw
+          (w.soonest-is, c.note_at-note.ensures)
+          (soonest_here c.loop-i.invariant c.loop-i-test.true (rw c.note_at-note.ensures at w.if-note-soonest.true))
+      | else-note-soonest w ↦ rw w.soonest-is (soonest_past c.loop-i.invariant c.loop-i-test.true (rw c.note_at-note.ensures at w.if-note-soonest.false))
+    ]
 
 pub returns : goal.returns
 returns c =

@@ -1,9 +1,6 @@
-use mathlib.Core.Logic.{⊎_elim}
 use Prim.Native.Nat.{◌-◌}
-use native.Mathlib.Omega.{arith}
 use Rattle.timeline.specs.Notes.{nth_note}
-use Rattle.timetable.proofs.Noted.{last_at}
-use Rattle.timetable.proofs.Extremes.{SoonestSo, soonest_none, soonest_here, soonest_past, soonest_all}
+use Rattle.timetable.proofs.Extremes.{SoonestSo}
 use Rattle.timetable.proofs.held.soonest_of.Given as goal
 
 abbrev pub invariant-loop-i : goal.invariant-loop-i

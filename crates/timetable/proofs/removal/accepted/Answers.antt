@@ -1,6 +1,5 @@
 -- `timetable::removal::accepted` meets its contract.
 use mathlib.Core.Path.{refl}
-use borrow.Author.Rules.{rules}
 use Rattle.timetable.proofs.removal.accepted.Goals as goal
 
 pub returns : goal.returns

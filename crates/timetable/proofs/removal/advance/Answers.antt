@@ -1,12 +1,7 @@
 -- `timetable::removal::advance` meets its contract: a refused move, one before the soonest end, or the ended jobs' rows taken out.
-use borrow.Author.Rules.{rules}
 use Rattle.timetable.proofs.Left.{call_is, call_long, refused_goes, told_here, quiet_goes, notes_asked, leaving_asked}
 use Rattle.timetable.proofs.Left.{advance_asked, advance_left, advance_cost, advance_goes}
 use Rattle.timetable.proofs.removal.advance.Goals as goal
-
--- What has gone before: the call, what the move answers, the rows marked, and those taken out.
-
--- the call that what is left comes of
 
 pub returns-then-number-ne0 : goal.returns-then-number-ne0
 returns-then-number-ne0 c =

@@ -1,6 +1,5 @@
 -- `timetable::removal::soonest_left` meets its contract: the least of two numbers is the other where the one given is greater; else all notes are read.
 use native.Mathlib.Omega.{arith}
-use borrow.Author.Rules.{rules}
 use Rattle.timetable.proofs.removal.soonest_left.Goals as goal
 
 pub returns-then-soonest-last : goal.returns-then-soonest-last

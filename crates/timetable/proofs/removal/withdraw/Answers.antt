@@ -1,14 +1,9 @@
 -- `timetable::removal::withdraw` meets its contract: a refused withdrawal, or the job's rows taken out.
 use mathlib.Core.Path.{refl}
 use native.Mathlib.Omega.{arith}
-use borrow.Author.Rules.{rules}
 use Rattle.timetable.proofs.Left.{call_is, call_long, refused_goes, withdrawal_asked, jobs_asked, note_asked}
 use Rattle.timetable.proofs.Left.{withdraw_asked, withdraw_left, withdraw_cost, withdraw_goes}
 use Rattle.timetable.proofs.removal.withdraw.Goals as goal
-
--- What has gone before: the call, what it answers, the rows marked, and those taken out.
-
--- the call that what is left comes of
 
 pub returns-then-judged-ne0 : goal.returns-then-judged-ne0
 returns-then-judged-ne0 c =

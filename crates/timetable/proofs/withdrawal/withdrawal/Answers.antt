@@ -3,8 +3,6 @@ use native.Mathlib.Omega.{arith}
 use Rattle.timetable.proofs.Judging.{jobs_read, begun_asked, place_there, judged_past, judged_absent, judged_begun, judged_free}
 use Rattle.timetable.proofs.withdrawal.withdrawal.Goals as goal
 
--- What has gone before: the call, and the place found.
-
 pub has_begun-requires : goal.has_begun-requires
 has_begun-requires c = begun_asked c.requires c.place_of-from.ensures
 

@@ -1,6 +1,5 @@
 -- `workload::drawn::made_up_tasks` is safe and ends: its loop has a turn for each of the 16 tasks.
 use Prim.Native.Nat.{◌≤◌, ◌-◌}
-use borrow.Author.Rules.{rules}
 use Rattle.rules.specs.Words.{most_tasks}
 use Rattle.workload.proofs.drawn.made_up_tasks.Given as goal
 

@@ -1,6 +1,5 @@
 -- `workload::graphs::with_inputs` is safe and ends: its loop has a turn for each of the 15 tasks that can send.
 use Prim.Native.Nat.{◌≤◌, ◌-◌}
-use borrow.Author.Rules.{rules}
 use Rattle.rules.specs.Words.{most_tasks}
 use Rattle.workload.proofs.graphs.with_inputs.Given as goal
 

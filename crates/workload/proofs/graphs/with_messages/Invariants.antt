@@ -1,6 +1,5 @@
 -- `workload::graphs::with_messages` is safe and ends: its loop has a turn for each of the 15 tasks that can receive.
 use Prim.Native.Nat.{◌+◌, ◌≤◌, ◌-◌}
-use borrow.Author.Rules.{rules}
 use Rattle.rules.specs.Words.{most_tasks}
 use Rattle.workload.proofs.graphs.with_messages.Given as goal
 

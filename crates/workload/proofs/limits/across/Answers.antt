@@ -1,7 +1,5 @@
 -- `workload::limits::across` is safe and ends: the measure is the count of messages that are left.
-use Prim.Native.Nat.{◌-◌}
 use native.Mathlib.Omega.{arith}
-use Rattle.rules.specs.Words.{most_messages}
 use Rattle.workload.proofs.limits.across.Goals as goal
 
 pub overflow_add-i : goal.overflow_add-i

@@ -1,5 +1,4 @@
 use Prim.Native.Nat.{◌-◌}
-use native.Mathlib.Omega.{arith}
 use Rattle.rules.specs.Words.{most_messages}
 use Rattle.workload.proofs.limits.across.Given as goal
 

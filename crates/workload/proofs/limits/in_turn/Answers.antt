@@ -1,7 +1,5 @@
 -- `workload::limits::in_turn` is safe and ends: the measure is the count of tasks that are left.
-use Prim.Native.Nat.{◌-◌}
 use native.Mathlib.Omega.{arith}
-use Rattle.rules.specs.Words.{most_tasks}
 use Rattle.workload.proofs.limits.in_turn.Goals as goal
 
 pub easy-tasks-requires : goal.easy-tasks-requires

@@ -1,7 +1,5 @@
 -- `workload::limits::large_tasks` is safe and ends: the measure is the count of tasks that are left.
-use Prim.Native.Nat.{◌-◌}
 use native.Mathlib.Omega.{arith}
-use Rattle.rules.specs.Words.{most_tasks}
 use Rattle.workload.proofs.limits.large_tasks.Goals as goal
 
 pub offset_bounds-tasks-i : goal.offset_bounds-tasks-i

@@ -1,5 +1,4 @@
 use Prim.Native.Nat.{◌-◌}
-use native.Mathlib.Omega.{arith}
 use Rattle.rules.specs.Words.{most_tasks}
 use Rattle.workload.proofs.limits.large_tasks.Given as goal
 

@@ -73,11 +73,11 @@ def kit_apart(kit, folder):
 
 
 def build(root, apart):
-    """Writes target/staticlib/libexports.a, and says whether it could."""
+    """Writes crates/exports/out/libexports.a, and says whether it could."""
     with tempfile.TemporaryDirectory(prefix="register-bench-kit-") as folder:
         kit = pathlib.Path(shutil.which("rt")).resolve().parent.parent
         more = kit_apart(kit, pathlib.Path(folder)) if apart else {}
-        return subprocess.run(["rt", "staticlib", "exports"], cwd=root, stdout=subprocess.DEVNULL, env={**os.environ, **more}).returncode == 0
+        return subprocess.run(["rt", "lib"], cwd=pathlib.Path(root) / "crates" / "exports", stdout=subprocess.DEVNULL, env={**os.environ, **more}).returncode == 0
 
 
 if __name__ == "__main__":

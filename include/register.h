@@ -1,7 +1,7 @@
 /*
  * The cluster register for programs in C and C++.
  *
- * Link target/staticlib/libexports.a, which `rt staticlib exports` writes.
+ * Link crates/exports/out/libexports.a, which `rt lib` writes in crates/exports.
  * It is for Linux on x86-64, with the C library.
  *
  * A function does what its comment says if the caller keeps the duties there.

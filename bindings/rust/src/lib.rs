@@ -1,8 +1,8 @@
 //! The cluster register for programs in Rust: a script to its output, and a job
 //! to its text.
 //!
-//! Both are proved functions of the static library that `rt staticlib exports`
-//! writes. `include/register.h` says what they ask of a caller. The functions
+//! Both are proved functions of the static library that `rt lib` writes in
+//! `crates/exports`. `include/register.h` says what they ask of a caller. The functions
 //! here ask nothing: slices keep those duties. A call of [`run`] or
 //! [`run_into`] takes up to 32 KB of stack; every thread of the standard
 //! library has more, unless it was asked for less.

@@ -3,7 +3,7 @@ ghost use Rattle.reservation.specs.Registers.{Valid};
 ghost use Rattle.booking.specs.Untouched.{Untouched};
 
 use crate::printing::{print_answer, print_seen};
-use check::expect;
+use console::Console;
 use reservation::calls::Call;
 use reservation::{Register, Reply};
 use rules::{Job, Kind};
@@ -13,9 +13,12 @@ pub fn fresh() -> Register
     ensures { Valid result }
 {
     let register = Register::new();
-    expect(register.clock() == 0);
-    expect(register.total() == 0);
-    expect(register.count() == 0);
+    let clock = register.clock();
+    let total = register.total();
+    let count = register.count();
+    prove!(clock == 0);
+    prove!(total == 0);
+    prove!(count == 0);
     register
 }
 
@@ -27,42 +30,42 @@ fn check_refused(before: Register, reply: Reply)
         return;
     }
     let left = reply.register;
-    expect(left.clock() == before.clock());
-    expect(left.total() == before.total());
-    expect(left.count() == before.count());
+    prove!(left.clock() == before.clock());
+    prove!(left.total() == before.total());
+    prove!(left.count() == before.count());
 }
 
-pub fn submit(register: Register, job: Job) -> Register
+pub fn submit(out: &mut Console, register: Register, job: Job) -> Register
     requires { Valid register }
     ensures { Valid result }
 {
     let reply = register.submit(job);
-    print_answer(reply.answer);
+    print_answer(out, reply.answer);
     check_refused(register, reply);
     reply.register
 }
 
-pub fn withdraw(register: Register, number: u64) -> Register
+pub fn withdraw(out: &mut Console, register: Register, number: u64) -> Register
     requires { Valid register }
     ensures { Valid result }
 {
     let reply = register.withdraw(number);
-    print_answer(reply.answer);
+    print_answer(out, reply.answer);
     check_refused(register, reply);
     reply.register
 }
 
-pub fn advance(register: Register, tick: u64) -> Register
+pub fn advance(out: &mut Console, register: Register, tick: u64) -> Register
     requires { Valid register }
     ensures { Valid result }
 {
     let reply = register.advance(tick);
-    print_answer(reply.answer);
+    print_answer(out, reply.answer);
     check_refused(register, reply);
     reply.register
 }
 
-pub fn apply(register: Register, kind: Kind, job: Job) -> Register
+pub fn apply(out: &mut Console, register: Register, kind: Kind, job: Job) -> Register
     requires { Valid register }
     ensures { Valid result }
 {
@@ -70,13 +73,13 @@ pub fn apply(register: Register, kind: Kind, job: Job) -> Register
         kind: kind,
         job: job,
     });
-    print_answer(reply.answer);
+    print_answer(out, reply.answer);
     check_refused(register, reply);
     reply.register
 }
 
-pub fn look(register: Register, machine: u64, tick: u64)
+pub fn look(out: &mut Console, register: Register, machine: u64, tick: u64)
     requires { Valid register }
 {
-    print_seen(register.look(machine, tick));
+    print_seen(out, register.look(machine, tick));
 }

@@ -2,8 +2,9 @@
 ghost use Rattle.reservation.specs.Registers.{Valid};
 
 use crate::calls::fresh;
-use crate::printing::{figure, heading, print_answer};
+use crate::printing::{heading, print_answer};
 use builder::alone;
+use console::Console;
 use reservation::Register;
 use rules::Job;
 use tally::{Counted, Ratio, Tally, guarantee_ratio, submit_tallied};
@@ -13,68 +14,67 @@ use workload::refused::unrunnable;
 // The most that a counter holds.
 const MOST: u32 = 4_294_967_295;
 
-fn print_tally(tally: Tally) {
-    figure(b"arrived=", tally.arrived as u64);
-    figure(b" admitted=", tally.admitted as u64);
+fn print_tally(out: &mut Console, tally: Tally) {
+    let Tally { arrived, admitted } = tally;
+    out.print(format_args!("arrived={arrived} admitted={admitted}"));
     match guarantee_ratio(tally) {
-        Ratio::Of(parts) => figure(b" ratio=", parts),
-        Ratio::Undefined => figure(b" refused=", 18),
+        Ratio::Of(parts) => out.println(format_args!(" ratio={parts}")),
+        Ratio::Undefined => out.println(" refused=18"),
     }
-    io::write_all(1, b"\n");
 }
 
-fn counted(tally: Tally, register: Register, job: Job) -> Counted
+fn counted(out: &mut Console, tally: Tally, register: Register, job: Job) -> Counted
     requires { Valid register }
     ensures { Valid result.reply.register }
 {
     let left = submit_tallied(tally, register, job);
     let reply = left.reply;
-    print_answer(reply.answer);
-    print_tally(left.tally);
+    print_answer(out, reply.answer);
+    print_tally(out, left.tally);
     left
 }
 
 // The next submission is handed the tally and the register that the last one left.
-fn counted_next(last: Counted, job: Job) -> Counted
+fn counted_next(out: &mut Console, last: Counted, job: Job) -> Counted
     requires { Valid last.reply.register }
     ensures { Valid result.reply.register }
 {
     let reply = last.reply;
-    counted(last.tally, reply.register, job)
+    counted(out, last.tally, reply.register, job)
 }
 
 // These counters and a fresh register, and the first submission.
-fn counted_from(arrived: u32, admitted: u32, job: Job) -> Counted
+fn counted_from(out: &mut Console, arrived: u32, admitted: u32, job: Job) -> Counted
     ensures { Valid result.reply.register }
 {
     let tally = Tally {
         arrived: arrived,
         admitted: admitted,
     };
-    print_tally(tally);
-    counted(tally, fresh(), job)
+    print_tally(out, tally);
+    counted(out, tally, fresh(), job)
 }
 
 // Submissions that are accepted, refused 5, accepted, refused 1, refused 6 and accepted.
-pub fn from_nothing() {
-    heading(b"tally");
-    let mut left = counted_from(0, 0, alone(7, easy()));
-    left = counted_next(left, alone(7, easy()));
-    left = counted_next(left, alone(8, easy()));
-    left = counted_next(left, alone(0, easy()));
-    left = counted_next(left, alone(9, unrunnable()));
-    counted_next(left, alone(9, easy()));
+pub fn from_nothing(out: &mut Console) {
+    heading(out, "tally");
+    let mut left = counted_from(out, 0, 0, alone(7, easy()));
+    left = counted_next(out, left, alone(7, easy()));
+    left = counted_next(out, left, alone(8, easy()));
+    left = counted_next(out, left, alone(0, easy()));
+    left = counted_next(out, left, alone(9, unrunnable()));
+    counted_next(out, left, alone(9, easy()));
 }
 
 // With either counter at its limit neither moves; one below it they move once.
-pub fn at_the_limit() {
-    heading(b"tally at its limit");
-    counted_from(MOST, 0, alone(7, easy()));
-    counted_from(5, MOST, alone(7, easy()));
-    let full = counted_from(MOST - 1, MOST - 1, alone(7, easy()));
-    counted_next(full, alone(8, easy()));
-    let one_refused = counted_from(MOST - 1, MOST - 1, alone(0, easy()));
-    counted_next(one_refused, alone(8, easy()));
-    let few_arrived = counted_from(7, MOST - 1, alone(7, easy()));
-    counted_next(few_arrived, alone(8, easy()));
+pub fn at_the_limit(out: &mut Console) {
+    heading(out, "tally at its limit");
+    counted_from(out, MOST, 0, alone(7, easy()));
+    counted_from(out, 5, MOST, alone(7, easy()));
+    let full = counted_from(out, MOST - 1, MOST - 1, alone(7, easy()));
+    counted_next(out, full, alone(8, easy()));
+    let one_refused = counted_from(out, MOST - 1, MOST - 1, alone(0, easy()));
+    counted_next(out, one_refused, alone(8, easy()));
+    let few_arrived = counted_from(out, 7, MOST - 1, alone(7, easy()));
+    counted_next(out, few_arrived, alone(8, easy()));
 }

@@ -4,11 +4,12 @@ ghost use Rattle.reservation.specs.Registers.{Valid};
 use crate::calls::{advance, submit, withdraw};
 use crate::printing::{heading, print_answer, print_state};
 use builder::{alone, task};
+use console::Console;
 use reservation::Register;
 use workload::examples::{one_row, three_rows};
 
 // Jobs of one row, with the numbers from `first` up to `end` and not `end`, or up to the first that is refused, whose answer is printed.
-fn fill(register: Register, first: u64, end: u64) -> Register
+fn fill(out: &mut Console, register: Register, first: u64, end: u64) -> Register
     requires { Valid register }
     ensures { Valid result }
 {
@@ -17,7 +18,7 @@ fn fill(register: Register, first: u64, end: u64) -> Register
     while number < end {
         let reply = left.submit(one_row(number));
         if reply.answer.number != 0 {
-            print_answer(reply.answer);
+            print_answer(out, reply.answer);
             return reply.register;
         }
         left = reply.register;
@@ -27,64 +28,64 @@ fn fill(register: Register, first: u64, end: u64) -> Register
 }
 
 // 8: with 255 rows a job of one row fits, with 256 it does not.
-pub fn filled(register: Register) -> Register
+pub fn filled(out: &mut Console, register: Register) -> Register
     requires { Valid register }
     ensures { Valid result }
 {
-    heading(b"filled");
-    let mut left = fill(register, 1, 255);
-    print_state(left);
-    left = submit(left, three_rows(1_000));
-    left = submit(left, one_row(255));
-    print_state(left);
-    left = submit(left, three_rows(1_000));
-    left = submit(left, one_row(256));
-    print_state(left);
-    left = submit(left, one_row(257));
-    left = submit(left, one_row(256));
-    left = submit(left, alone(257, task(60, 11, [1, 0, 0, 0])));
-    left = submit(left, alone(257, task(60, 0, [11, 0, 0, 0])));
-    print_state(left);
+    heading(out, "filled");
+    let mut left = fill(out, register, 1, 255);
+    print_state(out, left);
+    left = submit(out, left, three_rows(1_000));
+    left = submit(out, left, one_row(255));
+    print_state(out, left);
+    left = submit(out, left, three_rows(1_000));
+    left = submit(out, left, one_row(256));
+    print_state(out, left);
+    left = submit(out, left, one_row(257));
+    left = submit(out, left, one_row(256));
+    left = submit(out, left, alone(257, task(60, 11, [1, 0, 0, 0])));
+    left = submit(out, left, alone(257, task(60, 0, [11, 0, 0, 0])));
+    print_state(out, left);
     left
 }
 
 // Freed rows serve later jobs.
-pub fn refilled(register: Register) -> Register
+pub fn refilled(out: &mut Console, register: Register) -> Register
     requires { Valid register }
     ensures { Valid result }
 {
-    heading(b"refilled");
-    let mut left = withdraw(register, 1);
-    left = withdraw(left, 128);
-    left = withdraw(left, 256);
-    print_state(left);
-    left = submit(left, three_rows(1_000));
-    print_state(left);
-    left = submit(left, one_row(257));
-    left = advance(left, 100);
-    print_state(left);
-    left = fill(left, 1_001, 2_000);
-    print_state(left);
-    left = advance(left, 200);
-    print_state(left);
-    left = withdraw(left, 1_000);
-    left = fill(left, 2_001, 3_000);
-    print_state(left);
+    heading(out, "refilled");
+    let mut left = withdraw(out, register, 1);
+    left = withdraw(out, left, 128);
+    left = withdraw(out, left, 256);
+    print_state(out, left);
+    left = submit(out, left, three_rows(1_000));
+    print_state(out, left);
+    left = submit(out, left, one_row(257));
+    left = advance(out, left, 100);
+    print_state(out, left);
+    left = fill(out, left, 1_001, 2_000);
+    print_state(out, left);
+    left = advance(out, left, 200);
+    print_state(out, left);
+    left = withdraw(out, left, 1_000);
+    left = fill(out, left, 2_001, 3_000);
+    print_state(out, left);
     left
 }
 
-pub fn emptied(register: Register) -> Register
+pub fn emptied(out: &mut Console, register: Register) -> Register
     requires { Valid register }
     ensures { Valid result }
 {
-    heading(b"emptied");
-    let mut left = advance(register, 999_999_999);
-    print_state(left);
-    left = submit(left, alone(1, task(1_000_000_000, 0, [1, 0, 0, 0])));
-    left = submit(left, alone(2, task(1_000_000_000, 0, [1, 0, 0, 0])));
-    left = advance(left, 1_000_000_000);
-    left = submit(left, alone(1, task(1_000_000_000, 0, [1, 0, 0, 0])));
-    left = advance(left, 1_000_000_000);
-    left = advance(left, 999_999_999);
+    heading(out, "emptied");
+    let mut left = advance(out, register, 999_999_999);
+    print_state(out, left);
+    left = submit(out, left, alone(1, task(1_000_000_000, 0, [1, 0, 0, 0])));
+    left = submit(out, left, alone(2, task(1_000_000_000, 0, [1, 0, 0, 0])));
+    left = advance(out, left, 1_000_000_000);
+    left = submit(out, left, alone(1, task(1_000_000_000, 0, [1, 0, 0, 0])));
+    left = advance(out, left, 1_000_000_000);
+    left = advance(out, left, 999_999_999);
     left
 }

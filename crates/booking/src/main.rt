@@ -9,6 +9,7 @@ mod printing;
 mod refusals;
 
 use calls::fresh;
+use console::Console;
 use counting::{at_the_limit, from_nothing};
 use examples::{jobs_at_limits, worked_examples};
 use filling::{emptied, filled, refilled};
@@ -17,26 +18,30 @@ use refusals::{
     by_counts, by_figures, by_figures_of_tasks, by_messages, by_order, by_turns, looks,
     of_advances, of_withdrawals,
 };
+use std::process::ExitCode;
 
 // One register after the worked examples: each part is handed what the last one left. The tally's parts have registers of their own.
-fn main() {
-    worked_examples();
-    jobs_at_limits();
+fn main(rt: HostRuntime) -> ExitCode {
+    let mut console = Console::new(rt.stdout());
+    let out = &mut console;
+    worked_examples(out);
+    jobs_at_limits(out);
     let mut left = fresh();
-    left = by_counts(left);
-    left = by_figures(left);
-    left = by_figures_of_tasks(left);
-    left = by_messages(left);
-    left = by_order(left);
-    left = by_turns(left);
-    left = of_withdrawals(left);
-    looks(left);
-    left = of_advances(left);
-    print_register(left);
-    left = filled(left);
-    left = refilled(left);
-    left = emptied(left);
-    print_state(left);
-    from_nothing();
-    at_the_limit();
+    left = by_counts(out, left);
+    left = by_figures(out, left);
+    left = by_figures_of_tasks(out, left);
+    left = by_messages(out, left);
+    left = by_order(out, left);
+    left = by_turns(out, left);
+    left = of_withdrawals(out, left);
+    looks(out, left);
+    left = of_advances(out, left);
+    print_register(out, left);
+    left = filled(out, left);
+    left = refilled(out, left);
+    left = emptied(out, left);
+    print_state(out, left);
+    from_nothing(out);
+    at_the_limit(out);
+    console.status()
 }

@@ -2,16 +2,13 @@
 // `script=N` and N bytes, a line `output=M` and M bytes.
 #![tactic(auto)]
 
-ghost use Rattle.std.specs.Prelude.{◌+◌, ◌≤◌, length};
+ghost use Rattle.std.specs.Prelude.{◌≤◌, length};
 ghost use Rattle.cases.specs.Cases.{PartIs, CaseIs};
 
-use check::same;
-use libc::{STDIN_FILENO, STDOUT_FILENO};
 use lines::line::{DIGITS, begins_with, number};
 use script::{OUTPUT, run};
-
-// Room for the container.
-const SIZE: usize = 524_288;
+use std::io;
+use std::io::Read;
 
 // A part of the container: its first byte and the place after its last; or the container is not as its form says.
 #[derive(Clone, Copy)]
@@ -54,7 +51,7 @@ fn read_part(text: &[u8], at: usize, key: &[u8]) -> Part
 fn is_expected(input: &[u8], expected: &[u8]) -> bool {
     let mut output = [0u8; OUTPUT];
     let count = run(input, &mut output);
-    same(&output[..count], expected)
+    &output[..count] == expected
 }
 
 fn next_case(text: &[u8], at: usize) -> Case
@@ -73,49 +70,42 @@ fn next_case(text: &[u8], at: usize) -> Case
     Case::Checked(alike, end)
 }
 
-fn print(bytes: &[u8]) {
-    io::write_all(STDOUT_FILENO, bytes);
-}
-
-fn print_count(key: &[u8], n: u64) {
-    print(key);
-    io::print_decimal(STDOUT_FILENO, n);
-    print(b"\n");
+fn print_count(rt: &impl Print, key: &str, n: u64) -> io::Result<()> {
+    println!(rt; "{key}{n}")
 }
 
 // Prints the number of a case that differs, and counts it.
-fn noted(alike: bool, number: u64, different: u64) -> u64 {
+fn noted(rt: &impl Print, alike: bool, number: u64, different: u64) -> io::Result<u64> {
     if alike {
-        return different;
+        return Ok(different);
     }
-    print_count(b"differs=", number);
+    print_count(rt, "differs=", number)?;
     if different < 1_000_000 {
-        return different + 1;
+        return Ok(different + 1);
     }
-    different
+    Ok(different)
 }
 
 // All cases, one after the other.
-fn check_all(text: &[u8]) {
+fn check_all(rt: &impl Print, text: &[u8]) -> io::Result<()> {
     let mut at = 0;
     let mut cases: u64 = 0;
     let mut different: u64 = 0;
     while at < text.len() {
         let case = next_case(text, at);
         let Case::Checked(alike, next) = case else {
-            print(b"the container is damaged\n");
-            return;
+            return println!(rt; "the container is damaged");
         };
-        different = noted(alike, cases, different);
+        different = noted(rt, alike, cases, different)?;
         cases += 1;
         at = next;
     }
-    print_count(b"cases=", cases);
-    print_count(b"different=", different);
+    print_count(rt, "cases=", cases)?;
+    print_count(rt, "different=", different)
 }
 
-fn main() {
-    let mut buffer = [0u8; SIZE];
-    let count = io::read_full(STDIN_FILENO, &mut buffer);
-    check_all(&buffer[..count]);
+fn main(rt: HostRuntime) -> io::Result<()> {
+    let mut text = Vec::new(rt.alloc());
+    rt.stdin().read_to_end(&mut text)?;
+    check_all(&rt, &text)
 }

@@ -3,8 +3,9 @@ ghost use Rattle.reservation.specs.Registers.{Valid};
 
 use crate::both::{Both, advance, opened, parts_of, ratios_apart, submit, withdraw};
 use crate::counts::{Counts, differing};
-use crate::report::{print_figure, print_line, print_text};
+use crate::report::{print_figure, print_line};
 use builder::{alone, task};
+use console::Console;
 use reference::fresh;
 use rules::Job;
 use tally::Tally;
@@ -33,79 +34,79 @@ fn filled(both: Both, end: u64, costly: bool) -> Both
 }
 
 // One job of one row more, with what both sides answer.
-fn one_more(both: Both, number: u64) -> Both
+fn one_more(out: &mut Console, both: Both, number: u64) -> Both
     requires { Valid both.register }
     ensures { Valid result.register }
 {
     let more = submit(both, one_row(number));
-    print_figure(b"one row more beside ", both.book.count as u64);
-    print_figure(b": answer=", more.ours);
-    print_line(b" reference answer=", more.theirs);
+    print_figure(out, "one row more beside ", both.book.count as u64);
+    print_figure(out, ": answer=", more.ours);
+    print_line(out, " reference answer=", more.theirs);
     more
 }
 
 // With 255 rows a job of one row fits, with 256 it is refused 8.
-pub fn row_limit(counts: Counts) -> Counts {
+pub fn row_limit(out: &mut Console, counts: Counts) -> Counts {
     let almost_full = filled(opened(fresh(), counts, 1), 256, false);
-    let full = one_more(almost_full, 256);
-    let beyond = one_more(full, 257);
+    let full = one_more(out, almost_full, 256);
+    let beyond = one_more(out, full, 257);
     beyond.counts
 }
 
 // The total of both sides, which passes 32 bits.
-fn print_total(both: Both) {
+fn print_total(out: &mut Console, both: Both) {
     let register = both.register;
-    print_figure(b"total=", register.total());
-    print_line(b" reference total=", both.book.total);
+    print_figure(out, "total=", register.total());
+    print_line(out, " reference total=", both.book.total);
 }
 
 // A full register of the largest costs; then a job is withdrawn, and a hundred end.
-pub fn largest_total(counts: Counts) -> Counts {
+pub fn largest_total(out: &mut Console, counts: Counts) -> Counts {
     let full = filled(opened(fresh(), counts, 1), 257, true);
-    print_total(full);
+    print_total(out, full);
     let less = withdraw(full, 200);
-    print_total(less);
+    print_total(out, less);
     let later = advance(less, 100_000_000);
-    print_total(later);
+    print_total(out, later);
     later.counts
 }
 
-fn print_parts(name: &[u8], number: u64, parts: u64) {
-    print_figure(name, number);
-    print_figure(b" parts=", parts);
+fn print_parts(out: &mut Console, name: &str, number: u64, parts: u64) {
+    print_figure(out, name, number);
+    print_figure(out, " parts=", parts);
 }
 
-fn ratio(counts: Counts, arrived: u32, admitted: u32) -> Counts {
+fn ratio(out: &mut Console, counts: Counts, arrived: u32, admitted: u32) -> Counts {
     let tally = Tally {
         arrived: arrived,
         admitted: admitted,
     };
     let ours = parts_of(tally);
     let theirs = reference::ratio(arrived as u64, admitted as u64);
-    print_figure(b"ratio of ", admitted as u64);
-    print_figure(b" in ", arrived as u64);
-    print_parts(b": number=", ours.number, ours.parts);
-    print_parts(b" reference number=", theirs.number, theirs.parts);
-    print_text(b"\n");
+    print_figure(out, "ratio of ", admitted as u64);
+    print_figure(out, " in ", arrived as u64);
+    print_parts(out, ": number=", ours.number, ours.parts);
+    print_parts(out, " reference number=", theirs.number, theirs.parts);
+    out.println("");
     differing(counts, ratios_apart(tally, arrived as u64, admitted as u64))
 }
 
 // Two of three submissions are admitted.
-fn ratio_of_calls(counts: Counts) -> Counts {
+fn ratio_of_calls(out: &mut Console, counts: Counts) -> Counts {
     let first = submit(opened(fresh(), counts, 1), one_row(1));
     let again = submit(first, one_row(1));
     let second = submit(again, one_row(2));
     let tally = second.tally;
     let all = second.counts;
-    ratio(all, tally.arrived, tally.admitted)
+    ratio(out, all, tally.arrived, tally.admitted)
 }
 
 // That ratio; and 18 where nothing arrived, or less than was admitted.
-pub fn ratios(counts: Counts) -> Counts {
-    let mut more = ratio_of_calls(counts);
-    more = ratio(more, 0, 0);
-    more = ratio(more, 0, 1);
-    more = ratio(more, 2, 3);
-    more = ratio(more, 3, 3);
-    ratio(more, 4_294_967_295, 4_294_967_294)
+pub fn ratios(out: &mut Console, counts: Counts) -> Counts {
+    let mut more = ratio_of_calls(out, counts);
+    more = ratio(out, more, 0, 0);
+    more = ratio(out, more, 0, 1);
+    more = ratio(out, more, 2, 3);
+    more = ratio(out, more, 3, 3);
+    ratio(out, more, 4_294_967_295, 4_294_967_294)
 }

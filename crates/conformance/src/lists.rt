@@ -5,6 +5,7 @@ use crate::both::{Both, advance, opened, ratios_apart};
 use crate::calls::next_call;
 use crate::counts::{Counts, differing};
 use crate::report::print_list;
+use console::Console;
 use reference::{Book, fresh, planted};
 use reservation::Register;
 use workload::draws::{next_seed, plus};
@@ -36,36 +37,44 @@ fn one_list(book: Book, counts: Counts, shape: Shape, calls: u64, tick: u64, see
 }
 
 // Several lists of one shape, each from a seed of its own.
-fn several(name: &[u8], counts: Counts, shape: Shape, lists: u64, calls: u64, tick: u64) -> Counts {
+fn several(
+    out: &mut Console,
+    name: &str,
+    counts: Counts,
+    shape: Shape,
+    lists: u64,
+    calls: u64,
+    tick: u64,
+) -> Counts {
     let mut all = counts;
     let mut seed = plus(20_240_229, counts.calls);
     for i in 0..lists {
         seed = next_seed(seed);
         all = one_list(fresh(), all, shape, calls, tick, seed);
     }
-    print_list(name, counts, all);
+    print_list(out, name, counts, all);
     all
 }
 
-fn by_graphs(counts: Counts) -> Counts {
-    let mut all = several(b"chains", counts, chains(), 4, 900, 0);
-    all = several(b"forks", all, forks(), 4, 900, 0);
-    all = several(b"joins", all, joins(), 4, 900, 0);
-    all = several(b"trees", all, trees(), 4, 800, 0);
-    all = several(b"lattices", all, lattices(), 5, 700, 0);
-    several(b"random graphs", all, random_graphs(), 5, 700, 0)
+fn by_graphs(out: &mut Console, counts: Counts) -> Counts {
+    let mut all = several(out, "chains", counts, chains(), 4, 900, 0);
+    all = several(out, "forks", all, forks(), 4, 900, 0);
+    all = several(out, "joins", all, joins(), 4, 900, 0);
+    all = several(out, "trees", all, trees(), 4, 800, 0);
+    all = several(out, "lattices", all, lattices(), 5, 700, 0);
+    several(out, "random graphs", all, random_graphs(), 5, 700, 0)
 }
 
-pub fn all_lists(counts: Counts) -> Counts {
-    let mut all = several(b"dense", counts, dense(), 6, 1_500, 0);
-    all = by_graphs(all);
-    all = several(b"ties", all, ties(), 5, 1_000, 0);
-    all = several(b"out of range", all, out_of_range(), 5, 1_200, 0);
-    all = several(b"large figures", all, large_figures(), 4, 600, 0);
-    all = several(b"near the horizon", all, dense(), 3, 800, 999_999_000);
-    all = several(b"at the horizon", all, dense(), 1, 400, 1_000_000_000);
-    all = several(b"crowded", all, crowded(), 3, 2_500, 0);
-    several(b"crowded graphs", all, crowded_graphs(), 4, 1_200, 0)
+pub fn all_lists(out: &mut Console, counts: Counts) -> Counts {
+    let mut all = several(out, "dense", counts, dense(), 6, 1_500, 0);
+    all = by_graphs(out, all);
+    all = several(out, "ties", all, ties(), 5, 1_000, 0);
+    all = several(out, "out of range", all, out_of_range(), 5, 1_200, 0);
+    all = several(out, "large figures", all, large_figures(), 4, 600, 0);
+    all = several(out, "near the horizon", all, dense(), 3, 800, 999_999_000);
+    all = several(out, "at the horizon", all, dense(), 1, 400, 1_000_000_000);
+    all = several(out, "crowded", all, crowded(), 3, 2_500, 0);
+    several(out, "crowded graphs", all, crowded_graphs(), 4, 1_200, 0)
 }
 
 // One list with a wrong time for the link from machine 2 to machine 3.

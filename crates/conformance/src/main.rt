@@ -11,38 +11,44 @@ mod lists;
 mod report;
 
 use compare::{links_apart, rates_apart};
+use console::Console;
 use counts::{Counts, differing, nothing};
 use examples::{largest_total, ratios, row_limit};
 use lists::{all_lists, with_wrong_link};
 use reference::fresh;
-use report::{print_counts, print_line, print_text};
+use report::{print_counts, print_line};
+use std::process::ExitCode;
 use workload::draws::plus;
 
-fn tables(counts: Counts) -> Counts {
+fn tables(out: &mut Console, counts: Counts) -> Counts {
     let apart = plus(rates_apart(fresh()), links_apart(fresh()));
-    print_line(b"differences of the tables: ", apart);
+    print_line(out, "differences of the tables: ", apart);
     differing(counts, apart)
 }
 
-fn planted_fault() {
+fn planted_fault(out: &mut Console) {
     let counts = with_wrong_link(nothing());
     print_line(
-        b"with a wrong link time in the reference, differences: ",
+        out,
+        "with a wrong link time in the reference, differences: ",
         counts.differences,
     );
     if counts.differences == 0 {
-        print_text(b"the planted fault was not noticed\n");
+        out.println("the planted fault was not noticed");
     } else {
-        print_text(b"the planted fault was noticed\n");
+        out.println("the planted fault was noticed");
     }
 }
 
-fn main() {
-    let mut counts = tables(nothing());
-    counts = row_limit(counts);
-    counts = largest_total(counts);
-    counts = ratios(counts);
-    counts = all_lists(counts);
-    print_counts(counts);
-    planted_fault();
+fn main(rt: HostRuntime) -> ExitCode {
+    let mut console = Console::new(rt.stdout());
+    let out = &mut console;
+    let mut counts = tables(out, nothing());
+    counts = row_limit(out, counts);
+    counts = largest_total(out, counts);
+    counts = ratios(out, counts);
+    counts = all_lists(out, counts);
+    print_counts(out, counts);
+    planted_fault(out);
+    console.status()
 }

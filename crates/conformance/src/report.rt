@@ -1,52 +1,46 @@
 // What is printed.
 use crate::counts::Counts;
+use console::Console;
 use workload::draws::minus;
 
-pub fn print_text(text: &[u8]) {
-    io::write_all(1, text);
+pub fn print_figure(out: &mut Console, text: &str, n: u64) {
+    out.print(format_args!("{text}{n}"));
 }
 
-pub fn print_figure(text: &[u8], n: u64) {
-    io::write_all(1, text);
-    io::print_decimal(1, n);
-}
-
-pub fn print_line(text: &[u8], n: u64) {
-    print_figure(text, n);
-    io::write_all(1, b"\n");
+pub fn print_line(out: &mut Console, text: &str, n: u64) {
+    out.println(format_args!("{text}{n}"));
 }
 
 // What the lists of one shape added.
-pub fn print_list(name: &[u8], before: Counts, after: Counts) {
-    print_text(name);
-    print_figure(b": calls=", minus(after.calls, before.calls));
-    print_figure(b" accepted=", minus(after.answers[0], before.answers[0]));
-    print_line(
-        b" differences=",
-        minus(after.differences, before.differences),
-    );
+pub fn print_list(out: &mut Console, name: &str, before: Counts, after: Counts) {
+    let calls = minus(after.calls, before.calls);
+    let accepted = minus(after.answers[0], before.answers[0]);
+    let differences = minus(after.differences, before.differences);
+    out.println(format_args!(
+        "{name}: calls={calls} accepted={accepted} differences={differences}"
+    ));
 }
 
-fn print_answers(counts: Counts) {
+fn print_answers(out: &mut Console, counts: Counts) {
     for i in 0..14 {
-        print_figure(b"answer ", i as u64);
-        print_line(b": ", counts.answers[i]);
+        let count = counts.answers[i];
+        out.println(format_args!("answer {i}: {count}"));
     }
 }
 
-fn print_held(counts: Counts) {
-    print_line(b"most rows held: ", counts.most);
-    print_line(b"calls that left more than 200 rows: ", counts.crowded);
-    print_line(b"calls that left 255 rows: ", counts.almost_full);
-    print_line(b"calls that left 256 rows: ", counts.full);
+fn print_held(out: &mut Console, counts: Counts) {
+    print_line(out, "most rows held: ", counts.most);
+    print_line(out, "calls that left more than 200 rows: ", counts.crowded);
+    print_line(out, "calls that left 255 rows: ", counts.almost_full);
+    print_line(out, "calls that left 256 rows: ", counts.full);
 }
 
-pub fn print_counts(counts: Counts) {
-    print_line(b"calls: ", counts.calls);
-    print_answers(counts);
-    print_line(b"looks that found nothing: ", counts.idle);
-    print_line(b"looks that found a row: ", counts.booked);
-    print_held(counts);
-    print_line(b"rows compared: ", counts.rows);
-    print_line(b"differences: ", counts.differences);
+pub fn print_counts(out: &mut Console, counts: Counts) {
+    print_line(out, "calls: ", counts.calls);
+    print_answers(out, counts);
+    print_line(out, "looks that found nothing: ", counts.idle);
+    print_line(out, "looks that found a row: ", counts.booked);
+    print_held(out, counts);
+    print_line(out, "rows compared: ", counts.rows);
+    print_line(out, "differences: ", counts.differences);
 }

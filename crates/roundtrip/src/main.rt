@@ -6,26 +6,18 @@ mod jobs;
 mod writing;
 
 use jobs::checked;
-use libc::{STDIN_FILENO, STDOUT_FILENO};
 use lines::line::Reading;
+use std::io;
+use std::io::Read;
 use texts::job::read_job;
 use writing::Count;
 
-// Room for the texts.
-const SIZE: usize = 262_144;
-
-fn print(bytes: &[u8]) {
-    io::write_all(STDOUT_FILENO, bytes);
-}
-
-fn print_count(key: &[u8], n: u64) {
-    print(key);
-    io::print_decimal(STDOUT_FILENO, n);
-    print(b"\n");
+fn print_count(rt: &impl Print, key: &str, n: u64) -> io::Result<()> {
+    println!(rt; "{key}{n}")
 }
 
 // The texts, one after the other: each ends where the next begins.
-fn check_all(text: &[u8]) {
+fn check_all(rt: &impl Print, text: &[u8]) -> io::Result<()> {
     let mut at = 0;
     let mut jobs: u64 = 0;
     let mut count = Count {
@@ -35,22 +27,20 @@ fn check_all(text: &[u8]) {
     while at < text.len() {
         let rest = &text[at..];
         let read = read_job(rest);
-        let reading = read.reading;
-        let Reading::Read(_, next) = reading else {
-            print(b"a text cannot be read\n");
-            return;
+        let Reading::Read(_, next) = read.reading else {
+            return println!(rt; "a text cannot be read");
         };
         count = checked(read.job, &rest[..next], count);
         jobs += 1;
         at += next;
     }
-    print_count(b"jobs=", jobs);
-    print_count(b"tried=", count.tried);
-    print_count(b"different=", count.different);
+    print_count(rt, "jobs=", jobs)?;
+    print_count(rt, "tried=", count.tried)?;
+    print_count(rt, "different=", count.different)
 }
 
-fn main() {
-    let mut buffer = [0u8; SIZE];
-    let count = io::read_full(STDIN_FILENO, &mut buffer);
-    check_all(&buffer[..count]);
+fn main(rt: HostRuntime) -> io::Result<()> {
+    let mut text = Vec::new(rt.alloc());
+    rt.stdin().read_to_end(&mut text)?;
+    check_all(&rt, &text)
 }

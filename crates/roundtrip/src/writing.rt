@@ -1,5 +1,4 @@
 // The writer on marked buffers of many lengths.
-use check::same;
 use lines::line::Reading;
 use rules::{Job, MACHINES, MESSAGES, Message, TASKS, Task};
 use texts::job::read_job;
@@ -62,7 +61,7 @@ fn holds(buffer: &[u8], text: &[u8]) -> bool {
     if buffer.len() < length {
         return false;
     }
-    same(&buffer[..length], text) && is_kept(buffer, length)
+    &buffer[..length] == text && is_kept(buffer, length)
 }
 
 // Whether the writer, on the first so many bytes of a marked buffer, answers this number, and leaves the text and then the marks, or the marks alone.

@@ -1,0 +1,48 @@
+// Standard output for the programs that compare. Each prints all that it has to, and whether all of it was written shows in its exit status.
+#![tactic(auto)]
+
+ghost use Rattle.std.specs.Prelude.{◌≡◌, IsTrue, false};
+
+use std::fmt::Display;
+use std::io::{Print, Stdout};
+use std::process::ExitCode;
+
+#[derive(Drop)]
+pub struct Console {
+    to: Stdout,
+    // Whether something could not be written.
+    pub failed: bool,
+}
+
+impl Console {
+    pub fn new(to: Stdout) -> Console
+        ensures { result.failed ≡ false }
+    {
+        Console { to, failed: false }
+    }
+
+    pub fn print<D: Display + Drop>(&mut self, text: D)
+        ensures { IsTrue self.old.failed → IsTrue self.new.failed }
+    {
+        if self.to.print(text).is_err() {
+            self.failed = true;
+        }
+    }
+
+    pub fn println<D: Display + Drop>(&mut self, text: D)
+        ensures { IsTrue self.old.failed → IsTrue self.new.failed }
+    {
+        if self.to.println(text).is_err() {
+            self.failed = true;
+        }
+    }
+
+    // What the program ends with: a failure if anything was not written.
+    pub fn status(&self) -> ExitCode {
+        if self.failed {
+            ExitCode::FAILURE
+        } else {
+            ExitCode::SUCCESS
+        }
+    }
+}

@@ -57,7 +57,7 @@ fn counted_from(out: &mut Console, arrived: u32, admitted: u32, job: Job) -> Cou
 
 // Submissions that are accepted, refused 5, accepted, refused 1, refused 6 and accepted.
 pub fn from_nothing(out: &mut Console) {
-    heading(out, "tally");
+    heading(out, b"tally");
     let mut left = counted_from(out, 0, 0, alone(7, easy()));
     left = counted_next(out, left, alone(7, easy()));
     left = counted_next(out, left, alone(8, easy()));
@@ -68,7 +68,7 @@ pub fn from_nothing(out: &mut Console) {
 
 // With either counter at its limit neither moves; one below it they move once.
 pub fn at_the_limit(out: &mut Console) {
-    heading(out, "tally at its limit");
+    heading(out, b"tally at its limit");
     counted_from(out, MOST, 0, alone(7, easy()));
     counted_from(out, 5, MOST, alone(7, easy()));
     let full = counted_from(out, MOST - 1, MOST - 1, alone(7, easy()));

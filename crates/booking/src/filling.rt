@@ -32,7 +32,7 @@ pub fn filled(out: &mut Console, register: Register) -> Register
     requires { Valid register }
     ensures { Valid result }
 {
-    heading(out, "filled");
+    heading(out, b"filled");
     let mut left = fill(out, register, 1, 255);
     print_state(out, left);
     left = submit(out, left, three_rows(1_000));
@@ -54,7 +54,7 @@ pub fn refilled(out: &mut Console, register: Register) -> Register
     requires { Valid register }
     ensures { Valid result }
 {
-    heading(out, "refilled");
+    heading(out, b"refilled");
     let mut left = withdraw(out, register, 1);
     left = withdraw(out, left, 128);
     left = withdraw(out, left, 256);
@@ -78,7 +78,7 @@ pub fn emptied(out: &mut Console, register: Register) -> Register
     requires { Valid register }
     ensures { Valid result }
 {
-    heading(out, "emptied");
+    heading(out, b"emptied");
     let mut left = advance(out, register, 999_999_999);
     print_state(out, left);
     left = submit(out, left, alone(1, task(1_000_000_000, 0, [1, 0, 0, 0])));

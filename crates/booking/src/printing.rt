@@ -3,8 +3,9 @@ use console::Console;
 use reservation::Register;
 use rules::{Answer, Holder, ROWS, Row, Seen};
 
-pub fn heading(out: &mut Console, name: &str) {
-    out.println(name);
+pub fn heading(out: &mut Console, name: &[u8]) {
+    out.write(name);
+    out.write(b"\n");
 }
 
 pub fn print_answer(out: &mut Console, answer: Answer) {
@@ -17,7 +18,7 @@ pub fn print_answer(out: &mut Console, answer: Answer) {
     out.println(format_args!("answer={number} task={task} cost={cost} rows={rows}"));
 }
 
-fn print_holder(out: &mut Console, holder: Holder, job: u16) {
+fn print_holder(out: &mut Console, holder: Holder, job: u64) {
     match holder {
         Holder::TaskOn { machine, task } => {
             out.print(format_args!("machine={machine} job={job} task={task}"));
@@ -36,7 +37,7 @@ fn print_holder(out: &mut Console, holder: Holder, job: u16) {
 }
 
 fn print_row(out: &mut Console, row: Row) {
-    print_holder(out, row.holder, row.job);
+    print_holder(out, row.holder, row.job as u64);
     let start = row.start;
     let finish = row.finish;
     let cost = row.cost;

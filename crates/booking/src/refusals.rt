@@ -35,7 +35,7 @@ pub fn by_counts(out: &mut Console, register: Register) -> Register
     requires { Valid register }
     ensures { Valid result }
 {
-    heading(out, "numbers and counts");
+    heading(out, b"numbers and counts");
     let mut left = submit_each(out, register, Batch::Counts, 0, 11);
     print_state(out, left);
     left = withdraw(out, left, 7);
@@ -48,7 +48,7 @@ pub fn by_figures(out: &mut Console, register: Register) -> Register
     requires { Valid register }
     ensures { Valid result }
 {
-    heading(out, "figures");
+    heading(out, b"figures");
     let mut left = submit(out, register, largest(1_000_000));
     print_state(out, left);
     left = withdraw(out, left, 65_535);
@@ -62,7 +62,7 @@ pub fn by_figures_of_tasks(out: &mut Console, register: Register) -> Register
     requires { Valid register }
     ensures { Valid result }
 {
-    heading(out, "figures of tasks");
+    heading(out, b"figures of tasks");
     let left = submit_each(out, register, Batch::LastTask, 0, 10);
     print_state(out, left);
     left
@@ -73,7 +73,7 @@ pub fn by_messages(out: &mut Console, register: Register) -> Register
     requires { Valid register }
     ensures { Valid result }
 {
-    heading(out, "messages");
+    heading(out, b"messages");
     let left = submit_each(out, register, Batch::Messages, 0, 11);
     print_state(out, left);
     left
@@ -84,7 +84,7 @@ pub fn by_order(out: &mut Console, register: Register) -> Register
     requires { Valid register }
     ensures { Valid result }
 {
-    heading(out, "order");
+    heading(out, b"order");
     let left = submit_each(out, register, Batch::Order, 0, 10);
     print_state(out, left);
     left
@@ -95,7 +95,7 @@ pub fn by_turns(out: &mut Console, register: Register) -> Register
     requires { Valid register }
     ensures { Valid result }
 {
-    heading(out, "turns");
+    heading(out, b"turns");
     let mut left = submit_each(out, register, Batch::Turns, 0, 6);
     left = withdraw(out, left, 11);
     left = submit_each(out, left, Batch::Turns, 6, 7);
@@ -108,7 +108,7 @@ pub fn of_withdrawals(out: &mut Console, register: Register) -> Register
     requires { Valid register }
     ensures { Valid result }
 {
-    heading(out, "withdrawals");
+    heading(out, b"withdrawals");
     let mut left = withdraw(out, register, 0);
     left = withdraw(out, left, GREATEST);
     left = withdraw(out, left, 12);
@@ -138,7 +138,7 @@ fn of_later_withdrawals(out: &mut Console, register: Register) -> Register
 pub fn looks(out: &mut Console, register: Register)
     requires { Valid register }
 {
-    heading(out, "looks");
+    heading(out, b"looks");
     look(out, register, 0, 4);
     look(out, register, 5, 4);
     look(out, register, GREATEST, GREATEST);
@@ -164,7 +164,7 @@ pub fn of_advances(out: &mut Console, register: Register) -> Register
     requires { Valid register }
     ensures { Valid result }
 {
-    heading(out, "advances");
+    heading(out, b"advances");
     let mut left = move_to(out, register, 3);
     left = move_to(out, left, 4);
     left = move_to(out, left, 1_000_000_001);

@@ -70,8 +70,9 @@ fn next_case(text: &[u8], at: usize) -> Case
     Case::Checked(alike, end)
 }
 
-fn print_count(rt: &impl Print, key: &str, n: u64) -> io::Result<()> {
-    println!(rt; "{key}{n}")
+fn print_count(rt: &impl Print, key: &[u8], n: u64) -> io::Result<()> {
+    rt.write_all(key)?;
+    println!(rt; "{n}")
 }
 
 // Prints the number of a case that differs, and counts it.
@@ -79,7 +80,7 @@ fn noted(rt: &impl Print, alike: bool, number: u64, different: u64) -> io::Resul
     if alike {
         return Ok(different);
     }
-    print_count(rt, "differs=", number)?;
+    print_count(rt, b"differs=", number)?;
     if different < 1_000_000 {
         return Ok(different + 1);
     }
@@ -100,8 +101,8 @@ fn check_all(rt: &impl Print, text: &[u8]) -> io::Result<()> {
         cases += 1;
         at = next;
     }
-    print_count(rt, "cases=", cases)?;
-    print_count(rt, "different=", different)
+    print_count(rt, b"cases=", cases)?;
+    print_count(rt, b"different=", different)
 }
 
 fn main(rt: HostRuntime) -> io::Result<()> {

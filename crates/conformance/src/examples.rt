@@ -39,9 +39,9 @@ fn one_more(out: &mut Console, both: Both, number: u64) -> Both
     ensures { Valid result.register }
 {
     let more = submit(both, one_row(number));
-    print_figure(out, "one row more beside ", both.book.count as u64);
-    print_figure(out, ": answer=", more.ours);
-    print_line(out, " reference answer=", more.theirs);
+    print_figure(out, b"one row more beside ", both.book.count as u64);
+    print_figure(out, b": answer=", more.ours);
+    print_line(out, b" reference answer=", more.theirs);
     more
 }
 
@@ -56,8 +56,8 @@ pub fn row_limit(out: &mut Console, counts: Counts) -> Counts {
 // The total of both sides, which passes 32 bits.
 fn print_total(out: &mut Console, both: Both) {
     let register = both.register;
-    print_figure(out, "total=", register.total());
-    print_line(out, " reference total=", both.book.total);
+    print_figure(out, b"total=", register.total());
+    print_line(out, b" reference total=", both.book.total);
 }
 
 // A full register of the largest costs; then a job is withdrawn, and a hundred end.
@@ -71,9 +71,9 @@ pub fn largest_total(out: &mut Console, counts: Counts) -> Counts {
     later.counts
 }
 
-fn print_parts(out: &mut Console, name: &str, number: u64, parts: u64) {
+fn print_parts(out: &mut Console, name: &[u8], number: u64, parts: u64) {
     print_figure(out, name, number);
-    print_figure(out, " parts=", parts);
+    print_figure(out, b" parts=", parts);
 }
 
 fn ratio(out: &mut Console, counts: Counts, arrived: u32, admitted: u32) -> Counts {
@@ -83,10 +83,10 @@ fn ratio(out: &mut Console, counts: Counts, arrived: u32, admitted: u32) -> Coun
     };
     let ours = parts_of(tally);
     let theirs = reference::ratio(arrived as u64, admitted as u64);
-    print_figure(out, "ratio of ", admitted as u64);
-    print_figure(out, " in ", arrived as u64);
-    print_parts(out, ": number=", ours.number, ours.parts);
-    print_parts(out, " reference number=", theirs.number, theirs.parts);
+    print_figure(out, b"ratio of ", admitted as u64);
+    print_figure(out, b" in ", arrived as u64);
+    print_parts(out, b": number=", ours.number, ours.parts);
+    print_parts(out, b" reference number=", theirs.number, theirs.parts);
     out.println("");
     differing(counts, ratios_apart(tally, arrived as u64, admitted as u64))
 }

@@ -39,7 +39,7 @@ fn one_list(book: Book, counts: Counts, shape: Shape, calls: u64, tick: u64, see
 // Several lists of one shape, each from a seed of its own.
 fn several(
     out: &mut Console,
-    name: &str,
+    name: &[u8],
     counts: Counts,
     shape: Shape,
     lists: u64,
@@ -57,24 +57,24 @@ fn several(
 }
 
 fn by_graphs(out: &mut Console, counts: Counts) -> Counts {
-    let mut all = several(out, "chains", counts, chains(), 4, 900, 0);
-    all = several(out, "forks", all, forks(), 4, 900, 0);
-    all = several(out, "joins", all, joins(), 4, 900, 0);
-    all = several(out, "trees", all, trees(), 4, 800, 0);
-    all = several(out, "lattices", all, lattices(), 5, 700, 0);
-    several(out, "random graphs", all, random_graphs(), 5, 700, 0)
+    let mut all = several(out, b"chains", counts, chains(), 4, 900, 0);
+    all = several(out, b"forks", all, forks(), 4, 900, 0);
+    all = several(out, b"joins", all, joins(), 4, 900, 0);
+    all = several(out, b"trees", all, trees(), 4, 800, 0);
+    all = several(out, b"lattices", all, lattices(), 5, 700, 0);
+    several(out, b"random graphs", all, random_graphs(), 5, 700, 0)
 }
 
 pub fn all_lists(out: &mut Console, counts: Counts) -> Counts {
-    let mut all = several(out, "dense", counts, dense(), 6, 1_500, 0);
+    let mut all = several(out, b"dense", counts, dense(), 6, 1_500, 0);
     all = by_graphs(out, all);
-    all = several(out, "ties", all, ties(), 5, 1_000, 0);
-    all = several(out, "out of range", all, out_of_range(), 5, 1_200, 0);
-    all = several(out, "large figures", all, large_figures(), 4, 600, 0);
-    all = several(out, "near the horizon", all, dense(), 3, 800, 999_999_000);
-    all = several(out, "at the horizon", all, dense(), 1, 400, 1_000_000_000);
-    all = several(out, "crowded", all, crowded(), 3, 2_500, 0);
-    several(out, "crowded graphs", all, crowded_graphs(), 4, 1_200, 0)
+    all = several(out, b"ties", all, ties(), 5, 1_000, 0);
+    all = several(out, b"out of range", all, out_of_range(), 5, 1_200, 0);
+    all = several(out, b"large figures", all, large_figures(), 4, 600, 0);
+    all = several(out, b"near the horizon", all, dense(), 3, 800, 999_999_000);
+    all = several(out, b"at the horizon", all, dense(), 1, 400, 1_000_000_000);
+    all = several(out, b"crowded", all, crowded(), 3, 2_500, 0);
+    several(out, b"crowded graphs", all, crowded_graphs(), 4, 1_200, 0)
 }
 
 // One list with a wrong time for the link from machine 2 to machine 3.

@@ -22,7 +22,7 @@ use workload::draws::plus;
 
 fn tables(out: &mut Console, counts: Counts) -> Counts {
     let apart = plus(rates_apart(fresh()), links_apart(fresh()));
-    print_line(out, "differences of the tables: ", apart);
+    print_line(out, b"differences of the tables: ", apart);
     differing(counts, apart)
 }
 
@@ -30,7 +30,7 @@ fn planted_fault(out: &mut Console) {
     let counts = with_wrong_link(nothing());
     print_line(
         out,
-        "with a wrong link time in the reference, differences: ",
+        b"with a wrong link time in the reference, differences: ",
         counts.differences,
     );
     if counts.differences == 0 {

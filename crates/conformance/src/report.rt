@@ -3,22 +3,23 @@ use crate::counts::Counts;
 use console::Console;
 use workload::draws::minus;
 
-pub fn print_figure(out: &mut Console, text: &str, n: u64) {
-    out.print(format_args!("{text}{n}"));
+pub fn print_figure(out: &mut Console, text: &[u8], n: u64) {
+    out.write(text);
+    out.print(n);
 }
 
-pub fn print_line(out: &mut Console, text: &str, n: u64) {
-    out.println(format_args!("{text}{n}"));
+pub fn print_line(out: &mut Console, text: &[u8], n: u64) {
+    out.write(text);
+    out.println(n);
 }
 
 // What the lists of one shape added.
-pub fn print_list(out: &mut Console, name: &str, before: Counts, after: Counts) {
+pub fn print_list(out: &mut Console, name: &[u8], before: Counts, after: Counts) {
     let calls = minus(after.calls, before.calls);
     let accepted = minus(after.answers[0], before.answers[0]);
     let differences = minus(after.differences, before.differences);
-    out.println(format_args!(
-        "{name}: calls={calls} accepted={accepted} differences={differences}"
-    ));
+    out.write(name);
+    out.println(format_args!(": calls={calls} accepted={accepted} differences={differences}"));
 }
 
 fn print_answers(out: &mut Console, counts: Counts) {
@@ -29,18 +30,18 @@ fn print_answers(out: &mut Console, counts: Counts) {
 }
 
 fn print_held(out: &mut Console, counts: Counts) {
-    print_line(out, "most rows held: ", counts.most);
-    print_line(out, "calls that left more than 200 rows: ", counts.crowded);
-    print_line(out, "calls that left 255 rows: ", counts.almost_full);
-    print_line(out, "calls that left 256 rows: ", counts.full);
+    print_line(out, b"most rows held: ", counts.most);
+    print_line(out, b"calls that left more than 200 rows: ", counts.crowded);
+    print_line(out, b"calls that left 255 rows: ", counts.almost_full);
+    print_line(out, b"calls that left 256 rows: ", counts.full);
 }
 
 pub fn print_counts(out: &mut Console, counts: Counts) {
-    print_line(out, "calls: ", counts.calls);
+    print_line(out, b"calls: ", counts.calls);
     print_answers(out, counts);
-    print_line(out, "looks that found nothing: ", counts.idle);
-    print_line(out, "looks that found a row: ", counts.booked);
+    print_line(out, b"looks that found nothing: ", counts.idle);
+    print_line(out, b"looks that found a row: ", counts.booked);
     print_held(out, counts);
-    print_line(out, "rows compared: ", counts.rows);
-    print_line(out, "differences: ", counts.differences);
+    print_line(out, b"rows compared: ", counts.rows);
+    print_line(out, b"differences: ", counts.differences);
 }

@@ -37,6 +37,15 @@ impl Console {
         }
     }
 
+    // Bytes as they are.
+    pub fn write(&mut self, bytes: &[u8])
+        ensures { IsTrue self.old.failed → IsTrue self.new.failed }
+    {
+        if self.to.write_all(bytes).is_err() {
+            self.failed = true;
+        }
+    }
+
     // What the program ends with: a failure if anything was not written.
     pub fn status(&self) -> ExitCode {
         if self.failed {

@@ -12,8 +12,9 @@ use std::io::Read;
 use texts::job::read_job;
 use writing::Count;
 
-fn print_count(rt: &impl Print, key: &str, n: u64) -> io::Result<()> {
-    println!(rt; "{key}{n}")
+fn print_count(rt: &impl Print, key: &[u8], n: u64) -> io::Result<()> {
+    rt.write_all(key)?;
+    println!(rt; "{n}")
 }
 
 // The texts, one after the other: each ends where the next begins.
@@ -34,9 +35,9 @@ fn check_all(rt: &impl Print, text: &[u8]) -> io::Result<()> {
         jobs += 1;
         at += next;
     }
-    print_count(rt, "jobs=", jobs)?;
-    print_count(rt, "tried=", count.tried)?;
-    print_count(rt, "different=", count.different)
+    print_count(rt, b"jobs=", jobs)?;
+    print_count(rt, b"tried=", count.tried)?;
+    print_count(rt, b"different=", count.different)
 }
 
 fn main(rt: HostRuntime) -> io::Result<()> {

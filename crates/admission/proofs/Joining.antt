@@ -13,7 +13,7 @@ use Rattle.timeline.specs.RowLine.{spans_room, note_size, line_of, column, notes
 use Rattle.timeline.specs.Notes.{AskInsertNote, NoteInserted}
 use Rattle.timeline.proofs.Columns.{column_inserted, noted_of, notes_inserted}
 use Rattle.placement.specs.declared.own.Entry.{Entry}
-use Rattle.placement.specs.Own.{entry_at, entry_for, OwnRows}
+use Rattle.placement.specs.Own.{nth_entry, entry_for, OwnRows}
 use Rattle.timetable.specs.Marks.{JobsOf}
 use Rattle.admission.specs.Submitted.{AskJoin, JoinedIs}
 use Rattle.admission.proofs.Owning.{rows_to, rows_none, rows_all, line_to_long, line_to_more}
@@ -70,7 +70,7 @@ module _ {jobs₀ notes₀ own : List ℕ} {held count job last : ℕ} (ask : As
         }
 
     -- the figures of the next row
-    module _ (more : i < count) {entry : Entry} (read : entry ≡ entry_at own i) where
+    module _ (more : i < count) {entry : Entry} (read : entry ≡ nth_entry own i) where
       -- the line before it, as long as the index says
       module _ {rows new : List Row} (joins : Joins own held count rows new) where
         abbrev row : Row

@@ -17,7 +17,7 @@ use Rattle.rules.proofs.Sequences.{get_or_mem}
 use Rattle.timeline.specs.Timeline.{tick_room}
 use Rattle.timeline.specs.RowLine.{row_end}
 use Rattle.placement.specs.declared.own.Entry.{Entry}
-use Rattle.placement.specs.Own.{entry_at, OwnRows}
+use Rattle.placement.specs.Own.{nth_entry, OwnRows}
 use Rattle.timetable.specs.Derived.{most_of}
 use Rattle.admission.specs.Submitted.{LastIs}
 
@@ -54,7 +54,7 @@ module _ {own : List ℕ} {count : ℕ} where
 
   module _ {last i : ℕ} (so_far : LastSoFar own count last i) where
     pub last_more :
-        (last' : ℕ) → i < count → {entry : Entry} → entry ≡ entry_at own i → last' ≡ max last (entry.end % tick_room) → LastSoFar own count last' (i + 1)
+        (last' : ℕ) → i < count → {entry : Entry} → entry ≡ nth_entry own i → last' ≡ max last (entry.end % tick_room) → LastSoFar own count last' (i + 1)
     last_more last' more {entry} read later = record {
       within = omega arith;
       is =

@@ -10,7 +10,7 @@ use Rattle.rules.specs.Placing.{no_row}
 use Rattle.timeline.specs.RowLine.{spans_room, row_begin, row_end, insert_row, line_of, GoesAt, AskRemoveAt, RemovedAt, SpansOf}
 use Rattle.timeline.proofs.Columns.{column_long, column_removed}
 use Rattle.placement.specs.declared.own.Entry.{Entry}
-use Rattle.placement.specs.Own.{entry_at}
+use Rattle.placement.specs.Own.{nth_entry}
 use Rattle.admission.specs.Submitted.{Undoable, AskUndo, Undone}
 use Rattle.admission.proofs.Owning.{rows_to, rows_none, rows_all, line_to_long, line_to_more}
 
@@ -49,7 +49,7 @@ module _ {begins₀ ends₀ own : List ℕ} {held count : ℕ} where
         }
 
     -- the figures of the last of the own rows that are left
-    module _ (more : 0 < left) {entry : Entry} (read : entry ≡ entry_at own (left - 1)) where
+    module _ (more : 0 < left) {entry : Entry} (read : entry ≡ nth_entry own (left - 1)) where
       -- the line with that row, and without it
       module _ {rows new : List Row} (can : Undoable rows new begins₀ ends₀ own held count) where
         abbrev row : Row

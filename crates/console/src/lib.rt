@@ -1,7 +1,8 @@
 // Standard output for the programs that compare. Each prints all that it has to, and whether all of it was written shows in its exit status.
 #![tactic(auto)]
 
-ghost use Rattle.std.specs.Prelude.{◌≡◌, IsTrue, false};
+ghost use Rattle.std.specs.Prelude.{◌≡◌, IsTrue, false, if◌then◌else◌};
+ghost use Rattle.std.specs.Process.{exit_status};
 
 use std::fmt::Display;
 use std::io::{Print, Stdout};
@@ -47,7 +48,9 @@ impl Console {
     }
 
     // What the program ends with: a failure if anything was not written.
-    pub fn status(&self) -> ExitCode {
+    pub fn status(&self) -> ExitCode
+        ensures { exit_status result ≡ (if self.now.failed then 1 else 0) }
+    {
         if self.failed {
             ExitCode::FAILURE
         } else {

@@ -17,7 +17,7 @@ use Rattle.timeline.proofs.Drawing.{ends_ascend}
 use Rattle.timeline.proofs.Columns.{column_long, column_inserted}
 use Rattle.timeline.proofs.Line.{line_more, line_long, line_drawn, goes_at}
 use Rattle.placement.specs.declared.own.Entry.{Entry}
-use Rattle.placement.specs.Own.{entry_at, entry_for, OwnRows, AskPutEntry, EntryPut}
+use Rattle.placement.specs.Own.{nth_entry, entry_for, OwnRows, AskPutEntry, EntryPut}
 use Rattle.placement.specs.Appending.{Pushable, Pushed}
 
 -- what is on the line fills the columns, and is drawn
@@ -99,13 +99,13 @@ module _ {rows new : List Row} {begins ends own : List ℕ} {held used : ℕ} (c
         }
 
     module _ {own' : List ℕ} (noted : EntryPut own (used - held) (entry_for at row) own') where
-      noted_here : entry_at own' (length new) ≡ entry_for at row
+      noted_here : nth_entry own' (length new) ≡ entry_for at row
       noted_here = rw index_is at noted.here
 
-      noted_before : (i : ℕ) → i < length new → entry_at own' i ≡ entry_at own i
+      noted_before : (i : ℕ) → i < length new → nth_entry own' i ≡ nth_entry own i
       noted_before i below = noted.others i (λ e. omega (arith, index_is))
 
-      at_before : (i : ℕ) → i < length new → (entry_at own' i).at ≡ (entry_at own i).at
+      at_before : (i : ℕ) → i < length new → (nth_entry own' i).at ≡ (nth_entry own i).at
       at_before i below = ap (λ x. x.at) (noted_before i below)
 
       row_before : (i : ℕ) → i < length new → get_or (new ++ (row ∷ [])) i no_row ≡ get_or new i no_row

@@ -15,8 +15,8 @@ entry_size = 5
 abbrev pub owned : ℕ
 owned = most_own * entry_size
 
-abbrev pub entry_at : List ℕ → ℕ → Entry
-entry_at own i = record {
+abbrev pub nth_entry : List ℕ → ℕ → Entry
+nth_entry own i = record {
   at = get_or own (i * entry_size) 0;
   begin = get_or own (i * entry_size + 1) 0;
   end = get_or own (i * entry_size + 2) 0;
@@ -30,8 +30,8 @@ pub record AskPutEntry (own : List ℕ) (i : ℕ) : Type 0 where
 
 pub record EntryPut (old : List ℕ) (i : ℕ) (entry : Entry) (new : List ℕ) : Type 0 where
   pub long : length new ≡ owned
-  pub here : entry_at new i ≡ entry
-  pub others : (k : ℕ) → (k ≡ i → ⊥) → entry_at new k ≡ entry_at old k
+  pub here : nth_entry new i ≡ entry
+  pub others : (k : ℕ) → (k ≡ i → ⊥) → nth_entry new k ≡ nth_entry old k
 
 -- what a row is noted as, once it has gone to an index
 abbrev pub entry_for : (at : ℕ) → Row → Entry
@@ -40,8 +40,8 @@ entry_for at row = record { at = at; begin = row_begin row; end = row_end row; l
 -- the figures are those of the job's rows so far, beside the rows held: each went to its index on the line of those before it
 pub record OwnRows (rows new : List Row) (own : List ℕ) : Type 0 where
   pub long : length own ≡ owned
-  pub is : (i : ℕ) → i < length new → entry_at own i ≡ entry_for (entry_at own i).at (get_or new i no_row)
-  pub goes : (i : ℕ) → i < length new → GoesAt (line_of (rows ++ take i new)) (get_or new i no_row) (entry_at own i).at
+  pub is : (i : ℕ) → i < length new → nth_entry own i ≡ entry_for (nth_entry own i).at (get_or new i no_row)
+  pub goes : (i : ℕ) → i < length new → GoesAt (line_of (rows ++ take i new)) (get_or new i no_row) (nth_entry own i).at
 
 abbrev pub AskRow : Entry → Type 0
 AskRow entry = entry.label < label_bound

@@ -1,7 +1,7 @@
 // The rows that a job has so far: five figures each, in a lent row.
 ghost use Rattle.std.specs.Prelude.{◌≡◌, ◌<◌};
 ghost use Rattle.timeline.specs.RowLine.{most_own};
-ghost use Rattle.placement.specs.Own.{entry_at, AskPutEntry, EntryPut, AskRow, RowIs};
+ghost use Rattle.placement.specs.Own.{nth_entry, AskPutEntry, EntryPut, AskRow, RowIs};
 
 use rules::Row;
 use rules::codes::holder_of;
@@ -23,7 +23,7 @@ pub struct Entry {
 
 pub fn entry_at(own: &[u64; OWNED], i: usize) -> Entry
     requires { i < most_own }
-    ensures { result ≡ entry_at own.now i }
+    ensures { result ≡ nth_entry own.now i }
 {
     let at = i * ENTRY;
     Entry {

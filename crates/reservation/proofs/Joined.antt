@@ -12,7 +12,7 @@ use Rattle.rules.specs.Words.{row_limit}
 use Rattle.rules.specs.Placing.{no_row}
 use Rattle.rules.proofs.Sequences.{get_or_mem}
 use Rattle.timeline.specs.RowLine.{most_own, slots}
-use Rattle.placement.specs.Own.{entry_at, AskRow, RowIs}
+use Rattle.placement.specs.Own.{nth_entry, AskRow, RowIs}
 use Rattle.reservation.specs.Parts.{Joining, AskMore, MoreIs}
 use Rattle.placement.proofs.Entries.{label_below}
 use Rattle.reservation.proofs.Slotted.{slot_next}
@@ -34,7 +34,7 @@ module _ {held : List Row} {count : ℕ} {own : List ℕ} {more job : ℕ} where
     pub slot_below : count + i < row_limit
     slot_below = omega (arith, new_below, ask.joining.count_is, ask.joining.fits)
 
-    pub label_asked : AskRow (entry_at own i)
+    pub label_asked : AskRow (nth_entry own i)
     label_asked =
         let join = ask.joining in
         let row = get_or ask.new i no_row in
@@ -46,7 +46,7 @@ module _ {held : List Row} {count : ℕ} {own : List ℕ} {more job : ℕ} where
   joined_none = record { within = omega arith; follows = λ s old new join. join.held_is ∙ ap (slots row_limit) (sym (append-nil old)) }
 
   module _ {rows : List Row} {i : ℕ} (sofar : Joined held count own more job rows i) where
-    pub joined_more : {row : Row} → i < more → RowIs (entry_at own i) job row → Joined held count own more job (set rows (count + i) row) (i + 1)
+    pub joined_more : {row : Row} → i < more → RowIs (nth_entry own i) job row → Joined held count own more job (set rows (count + i) row) (i + 1)
     joined_more {row} below is = record {
       within = omega arith;
       follows =

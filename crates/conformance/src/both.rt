@@ -4,7 +4,7 @@ ghost use Rattle.reservation.specs.Registers.{Valid};
 use crate::compare::{rows_apart, same_answer, same_seen, states_apart};
 use crate::convert::converted;
 use crate::counts::{Counts, answered, differing, holding, seen_booked, seen_idle};
-use reference::{Book, RefReply, RefSeen};
+use reference::{Admission, Book, RefRow, Refusal};
 use reservation::{Register, Reply};
 use rules::{Job, Seen};
 use tally::{Ratio, Tally, counted_of, guarantee_ratio};
@@ -46,31 +46,36 @@ pub fn opened(book: Book, counts: Counts, seed: u64) -> Both
     }
 }
 
-fn larger(a: usize, b: usize) -> usize {
-    if a < b { b } else { a }
-}
+// What a call answers that books nothing.
+const NO_ROWS: Admission = Admission { cost: 0, rows: 0 };
 
 // What both hold after a call.
-fn held_apart(counts: Counts, register: Register, book: Book) -> Counts
+fn held_apart(counts: Counts, register: Register, book: &Book) -> Counts
     requires { Valid register }
 {
-    let count = larger(register.count(), book.count);
+    let count = register.count().max(book.rows().len());
     let rows = rows_apart(register, book, count);
     let apart = plus(states_apart(register, book), rows);
     holding(differing(counts, apart), count as u64)
 }
 
+// The number of a refusal, or 0.
+pub fn refusal_number<T: Copy>(answer: Result<T, Refusal>) -> u64 {
+    match answer {
+        Ok(_) => 0,
+        Err(refusal) => refusal.number(),
+    }
+}
+
 // Both sides have answered.
-fn settled(both: Both, reply: Reply, other: RefReply) -> Both
+fn settled(both: Both, reply: Reply, book: Book, theirs: Result<Admission, Refusal>) -> Both
     requires { Valid reply.register }
     ensures { Valid result.register }
 {
     let register = reply.register;
-    let book = other.book;
     let counts = both.counts;
     let ours = reply.answer;
-    let theirs = other.answer;
-    let mut more = answered(held_apart(counts, register, book), ours.number);
+    let mut more = answered(held_apart(counts, register, &book), ours.number);
     if !same_answer(ours, theirs) {
         more = differing(more, 1);
     }
@@ -84,7 +89,7 @@ fn settled(both: Both, reply: Reply, other: RefReply) -> Both
         arrived: both.arrived,
         admitted: both.admitted,
         ours: ours.number,
-        theirs: theirs.number,
+        theirs: refusal_number(theirs),
     }
 }
 
@@ -108,9 +113,10 @@ pub fn submit(both: Both, job: Job) -> Both
     ensures { Valid result.register }
 {
     let register = both.register;
-    let book = both.book;
+    let mut book = both.book;
     let reply = register.submit(job);
-    tallied(settled(both, reply, reference::submit(book, converted(job))))
+    let theirs = book.submit(&converted(job));
+    tallied(settled(both, reply, book, theirs))
 }
 
 pub fn withdraw(both: Both, number: u64) -> Both
@@ -118,9 +124,10 @@ pub fn withdraw(both: Both, number: u64) -> Both
     ensures { Valid result.register }
 {
     let register = both.register;
-    let book = both.book;
+    let mut book = both.book;
     let reply = register.withdraw(number);
-    settled(both, reply, reference::withdraw(book, number))
+    let theirs = book.withdraw(number).map(|()| NO_ROWS);
+    settled(both, reply, book, theirs)
 }
 
 pub fn advance(both: Both, tick: u64) -> Both
@@ -128,12 +135,13 @@ pub fn advance(both: Both, tick: u64) -> Both
     ensures { Valid result.register }
 {
     let register = both.register;
-    let book = both.book;
+    let mut book = both.book;
     let reply = register.advance(tick);
-    settled(both, reply, reference::move_clock(book, tick))
+    let theirs = book.advance(tick).map(|()| NO_ROWS);
+    settled(both, reply, book, theirs)
 }
 
-fn looked(counts: Counts, seen: Seen, other: RefSeen) -> Counts {
+fn looked(counts: Counts, seen: Seen, other: Result<Option<RefRow>, Refusal>) -> Counts {
     let more = match seen {
         Seen::Idle => seen_idle(counts),
         Seen::Booked(_) => seen_booked(counts),
@@ -150,43 +158,26 @@ pub fn look(both: Both, machine: u64, tick: u64) -> Both
     ensures { Valid result.register }
 {
     let register = both.register;
-    let book = both.book;
     let counts = both.counts;
     let seen = register.look(machine, tick);
     let mut more = both;
-    more.counts = looked(counts, seen, reference::look(book, machine, tick));
+    more.counts = looked(counts, seen, both.book.look(machine, tick));
     more
 }
 
-// The ratio in parts of 10,000, and 18 or 0 beside it.
-#[derive(Clone, Copy)]
-pub struct Parts {
-    pub number: u64,
-    pub parts: u64,
-}
-
-pub fn parts_of(tally: Tally) -> Parts {
+// The ratio of the register's side, as the other side gives it.
+pub fn parts_of(tally: Tally) -> Result<u64, Refusal> {
     match guarantee_ratio(tally) {
-        Ratio::Of(parts) => Parts {
-            number: 0,
-            parts: parts,
-        },
-        Ratio::Undefined => Parts {
-            number: 18,
-            parts: 0,
-        },
+        Ratio::Of(parts) => Ok(parts),
+        Ratio::Undefined => Err(Refusal::NoRatio),
     }
 }
 
 // The ratio of a list's submissions, 1 where the two sides differ.
 pub fn ratios_apart(tally: Tally, arrived: u64, admitted: u64) -> u64 {
-    let ours = parts_of(tally);
-    let theirs = reference::ratio(arrived, admitted);
-    if ours.number != theirs.number {
-        return 1;
+    if parts_of(tally) == reference::ratio(arrived, admitted) {
+        0
+    } else {
+        1
     }
-    if ours.parts != theirs.parts {
-        return 1;
-    }
-    0
 }

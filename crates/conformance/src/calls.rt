@@ -2,7 +2,7 @@
 ghost use Rattle.reservation.specs.Registers.{Valid};
 
 use crate::both::{Both, advance, look, submit, withdraw};
-use reference::{Book, RefRow, no_row};
+use reference::{Book, RefHolder, RefRow};
 use reservation::Register;
 use workload::drawn::made_up_job;
 use workload::draws::{GREATEST, draw, minus, next_seed, plus, rarely};
@@ -17,7 +17,7 @@ pub fn next_call(both: Both, shape: Shape) -> Both
     let mut next = both;
     next.seed = seed;
     if draw(seed, 10, 16) < shape.submissions {
-        return submit(next, made_up_job(shape, next.book.clock, seed));
+        return submit(next, made_up_job(shape, next.book.clock(), seed));
     }
     other_call(next, shape, seed)
 }
@@ -26,7 +26,7 @@ fn other_call(both: Both, shape: Shape, seed: u64) -> Both
     requires { Valid both.register }
     ensures { Valid result.register }
 {
-    let book = both.book;
+    let book = &both.book;
     let kind = draw(seed, 11, 16);
     if kind < shape.withdrawals {
         return withdraw(both, number_of(book, shape, seed));
@@ -38,20 +38,18 @@ fn other_call(both: Both, shape: Shape, seed: u64) -> Both
     look(both, view.machine, view.tick)
 }
 
-// One of the rows held, or a blank one.
-fn some_row(book: Book, seed: u64, key: u64) -> RefRow {
-    let at = draw(seed, key, book.count as u64) as usize;
-    if at < 256 {
-        return book.rows[at];
-    }
-    no_row()
+// One of the rows held, if there is one.
+fn some_row(book: &Book, seed: u64, key: u64) -> Option<RefRow> {
+    let rows = book.rows();
+    rows.get(draw(seed, key, rows.len() as u64) as usize)
+        .copied()
 }
 
 // The number of a held job, any number, or one that no job can have.
-fn number_of(book: Book, shape: Shape, seed: u64) -> u64 {
+fn number_of(book: &Book, shape: Shape, seed: u64) -> u64 {
     let how = draw(seed, 20, 16);
     if how < 10 {
-        return some_row(book, seed, 21).job;
+        return some_row(book, seed, 21).map_or(0, |row| row.job);
     }
     match how {
         10 => 0,
@@ -62,9 +60,9 @@ fn number_of(book: Book, shape: Shape, seed: u64) -> u64 {
 }
 
 // Where the clock is moved to.
-fn tick_of(book: Book, shape: Shape, seed: u64) -> u64 {
+fn tick_of(book: &Book, shape: Shape, seed: u64) -> u64 {
     let how = draw(seed, 30, 16);
-    let clock = book.clock;
+    let clock = book.clock();
     match how {
         0 => minus(clock, 1 + draw(seed, 31, 5)),
         1 => 0,
@@ -86,55 +84,39 @@ fn refused_tick(seed: u64) -> u64 {
 }
 
 // The first start or the last finish of a job, a tick before it, or a row's own.
-fn tick_of_job(book: Book, shape: Shape, seed: u64) -> u64 {
+fn tick_of_job(book: &Book, shape: Shape, seed: u64) -> u64 {
     if !shape.jumps {
-        return plus(book.clock, 1);
+        return plus(book.clock(), 1);
     }
     let row = some_row(book, seed, 35);
-    let span = span_of(book, row.job);
+    let job = row.map_or(0, |row| row.job);
     let how = draw(seed, 36, 6);
     match how {
-        0 => span.first,
-        1 => minus(span.first, 1),
-        2 => span.last,
-        3 => minus(span.last, 1),
-        4 => row.start,
-        _ => row.finish,
+        0 => first_start(book, job),
+        1 => minus(first_start(book, job), 1),
+        2 => last_finish(book, job),
+        3 => minus(last_finish(book, job), 1),
+        4 => row.map_or(0, |row| row.start),
+        _ => row.map_or(0, |row| row.finish),
     }
 }
 
-// A job's first start and last finish.
-#[derive(Clone, Copy)]
-struct Span {
-    first: u64,
-    last: u64,
+fn first_start(book: &Book, job: u64) -> u64 {
+    book.rows()
+        .iter()
+        .filter(|row| row.job == job)
+        .map(|row| row.start)
+        .min()
+        .unwrap_or(GREATEST)
 }
 
-fn span_of(book: Book, job: u64) -> Span {
-    let mut span = Span {
-        first: GREATEST,
-        last: 0,
-    };
-    for i in 0..256 {
-        if i < book.count {
-            span = with_row(span, book.rows[i], job);
-        }
-    }
-    span
-}
-
-fn with_row(span: Span, row: RefRow, job: u64) -> Span {
-    let mut wider = span;
-    if row.job != job {
-        return span;
-    }
-    if row.start < span.first {
-        wider.first = row.start;
-    }
-    if span.last < row.finish {
-        wider.last = row.finish;
-    }
-    wider
+fn last_finish(book: &Book, job: u64) -> u64 {
+    book.rows()
+        .iter()
+        .filter(|row| row.job == job)
+        .map(|row| row.finish)
+        .max()
+        .unwrap_or(0)
 }
 
 // A machine and a tick to look at.
@@ -144,29 +126,42 @@ struct View {
     tick: u64,
 }
 
-fn view_of(book: Book, shape: Shape, seed: u64) -> View {
-    let row = some_row(book, seed, 40);
+fn view_of(book: &Book, shape: Shape, seed: u64) -> View {
     if rarely(seed, 41, 2) {
-        return View {
-            machine: row.machine,
-            tick: tick_of_row(row, seed),
-        };
+        return view_of_row(some_row(book, seed, 40), seed);
     }
     View {
         machine: machine_of(seed),
-        tick: any_tick(book.clock, shape.slack, seed),
+        tick: any_tick(book.clock(), shape.slack, seed),
+    }
+}
+
+// The machine of a row, or the sending one of a link; none where no row is held.
+fn view_of_row(row: Option<RefRow>, seed: u64) -> View {
+    match row {
+        Some(row) => View {
+            machine: match row.holder {
+                RefHolder::Task { machine, .. } => machine.number(),
+                RefHolder::Message { link, .. } => link.from.number(),
+            },
+            tick: tick_beside(row.start, row.finish, seed),
+        },
+        None => View {
+            machine: 0,
+            tick: tick_beside(0, 0, seed),
+        },
     }
 }
 
 // At the ends of a row, and beside them.
-fn tick_of_row(row: RefRow, seed: u64) -> u64 {
+fn tick_beside(start: u64, finish: u64, seed: u64) -> u64 {
     let how = draw(seed, 42, 5);
     match how {
-        0 => row.start,
-        1 => minus(row.start, 1),
-        2 => row.finish,
-        3 => minus(row.finish, 1),
-        _ => plus(row.start, 1),
+        0 => start,
+        1 => minus(start, 1),
+        2 => finish,
+        3 => minus(finish, 1),
+        _ => plus(start, 1),
     }
 }
 

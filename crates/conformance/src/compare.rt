@@ -1,110 +1,82 @@
 // What the two schedulers answered and hold, compared figure by figure. Each function says whether two values are the same, or counts the differences.
 ghost use Rattle.std.specs.Prelude.{◌≤◌};
 
-use reference::{Book, RefAnswer, RefRow, RefSeen};
+use reference::{Admission, Book, Link, Machine, RefHolder, RefRow, Refusal, Tables};
 use reservation::Register;
 use rules::tables::{default_setup, machine_rate, transfer_rate, transfer_time};
 use rules::{Answer, Holder, Row, Seen};
 use workload::draws::plus;
 
-pub fn same_answer(ours: Answer, theirs: RefAnswer) -> bool {
-    if ours.number != theirs.number {
-        return false;
-    }
-    if ours.task != theirs.task {
-        return false;
-    }
-    if ours.cost != theirs.cost {
-        return false;
-    }
-    ours.rows == theirs.rows
-}
-
-fn same_task(machine: u64, task: u64, theirs: RefRow) -> bool {
-    if theirs.link {
-        return false;
-    }
-    if machine != theirs.machine {
-        return false;
-    }
-    task == theirs.task
-}
-
-fn same_ends(source: u64, target: u64, theirs: RefRow) -> bool {
-    if source != theirs.machine {
-        return false;
-    }
-    target == theirs.target
-}
-
-fn same_message(sender: u64, receiver: u64, theirs: RefRow) -> bool {
-    if !theirs.link {
-        return false;
-    }
-    if sender != theirs.sender {
-        return false;
-    }
-    receiver == theirs.task
-}
-
-fn same_holder(ours: Holder, theirs: RefRow) -> bool {
-    match ours {
-        Holder::TaskOn { machine, task } => same_task(machine as u64, task as u64, theirs),
-        Holder::MessageOn {
-            source,
-            target,
-            sender,
-            receiver,
-        } => {
-            if same_ends(source as u64, target as u64, theirs) {
-                same_message(sender as u64, receiver as u64, theirs)
-            } else {
-                false
-            }
+pub fn same_answer(ours: Answer, theirs: Result<Admission, Refusal>) -> bool {
+    match theirs {
+        Ok(admission) => {
+            ours.number == 0
+                && ours.task == 0
+                && ours.cost == admission.cost
+                && ours.rows == admission.rows
+        }
+        Err(refusal) => {
+            ours.number == refusal.number()
+                && ours.task == refusal.task()
+                && ours.cost == 0
+                && ours.rows == 0
         }
     }
 }
 
-fn same_figures(ours: Row, theirs: RefRow) -> bool {
-    if ours.job as u64 != theirs.job {
-        return false;
+fn same_machine(ours: u8, theirs: Machine) -> bool {
+    u64::from(ours) == theirs.number()
+}
+
+fn same_task(ours: u8, theirs: u64) -> bool {
+    u64::from(ours) == theirs
+}
+
+fn same_holder(ours: Holder, theirs: RefHolder) -> bool {
+    match (ours, theirs) {
+        (
+            Holder::TaskOn { machine, task },
+            RefHolder::Task {
+                machine: on,
+                task: number,
+            },
+        ) => { same_machine(machine, on) && same_task(task, number) }
+        (
+            Holder::MessageOn {
+                source,
+                target,
+                sender,
+                receiver,
+            },
+            RefHolder::Message {
+                link,
+                sender: from,
+                receiver: to,
+            },
+        ) => {
+            same_machine(source, link.from)
+                && same_machine(target, link.to)
+                && same_task(sender, from)
+                && same_task(receiver, to)
+        }
+        _ => false,
     }
-    if ours.start as u64 != theirs.start {
-        return false;
-    }
-    if ours.finish as u64 != theirs.finish {
-        return false;
-    }
-    ours.cost == theirs.cost
 }
 
 fn same_row(ours: Row, theirs: RefRow) -> bool {
-    let holder = ours.holder;
-    if !same_holder(holder, theirs) {
-        return false;
-    }
-    same_figures(ours, theirs)
+    same_holder(ours.holder, theirs.holder)
+        && u64::from(ours.job) == theirs.job
+        && u64::from(ours.start) == theirs.start
+        && u64::from(ours.finish) == theirs.finish
+        && ours.cost == theirs.cost
 }
 
-pub fn same_seen(ours: Seen, theirs: RefSeen) -> bool {
-    match ours {
-        Seen::NoMachine => theirs.number == 13,
-        Seen::Idle => {
-            if theirs.number != 0 {
-                return false;
-            }
-            !theirs.booked
-        }
-        Seen::Booked(row) => {
-            if theirs.number != 0 {
-                return false;
-            }
-            if !theirs.booked {
-                return false;
-            }
-            let other = theirs.row;
-            same_row(row, other)
-        }
+pub fn same_seen(ours: Seen, theirs: Result<Option<RefRow>, Refusal>) -> bool {
+    match (ours, theirs) {
+        (Seen::NoMachine, Err(Refusal::NoSuchMachine)) => true,
+        (Seen::Idle, Ok(None)) => true,
+        (Seen::Booked(row), Ok(Some(other))) => same_row(row, other),
+        _ => false,
     }
 }
 
@@ -113,60 +85,56 @@ fn one_if(differs: bool) -> u64 {
 }
 
 // The clock, the total and the count of rows.
-pub fn states_apart(ours: Register, theirs: Book) -> u64 {
-    let clock = one_if(ours.clock() != theirs.clock);
-    let total = one_if(ours.total() != theirs.total);
-    let count = one_if(ours.count() != theirs.count);
+pub fn states_apart(ours: Register, theirs: &Book) -> u64 {
+    let clock = one_if(ours.clock() != theirs.clock());
+    let total = one_if(ours.total() != theirs.total());
+    let count = one_if(ours.count() != theirs.rows().len());
     plus(plus(clock, total), count)
 }
 
 // The rows, up to the larger count.
-pub fn rows_apart(ours: Register, theirs: Book, count: usize) -> u64 {
+pub fn rows_apart(ours: Register, theirs: &Book, count: usize) -> u64 {
     let rows = ours.rows();
+    let others = theirs.rows();
     let mut apart: u64 = 0;
-    for i in 0..256 {
-        if i < count {
-            if !same_row(rows[i], theirs.rows[i]) {
-                apart = plus(apart, 1);
-            }
+    for (i, row) in rows.iter().enumerate().take(count) {
+        if others.get(i).is_none_or(|other| !same_row(*row, *other)) {
+            apart = plus(apart, 1);
         }
     }
     apart
 }
 
 // The failure rates of the machines.
-pub fn rates_apart(theirs: Book) -> u64 {
+pub fn rates_apart(theirs: &Tables) -> u64 {
     let setup = default_setup();
     let table = setup.table;
     let mut apart = one_if(table.machines != 4);
-    for machine in 1u64..5 {
-        let rate = machine_rate(setup, machine);
-        let at = (machine - 1) as usize;
-        apart = plus(apart, one_if(rate != theirs.rates[at]));
+    for machine in Machine::ALL {
+        let rate = machine_rate(setup, machine.number());
+        apart = plus(apart, one_if(rate != theirs.rate(machine)));
     }
     apart
 }
 
 // The times and failure rates of the links, for every ordered pair of machines.
-pub fn links_apart(theirs: Book) -> u64 {
+pub fn links_apart(theirs: &Tables) -> u64 {
     let mut apart: u64 = 0;
-    for source in 1u64..5 {
-        apart = plus(apart, links_from_apart(theirs, source));
+    for from in Machine::ALL {
+        apart = plus(apart, links_from_apart(theirs, from));
     }
     apart
 }
 
-fn links_from_apart(theirs: Book, source: u64) -> u64
-    requires { (1 ≤ source) × (source ≤ 4) }
-{
+fn links_from_apart(theirs: &Tables, from: Machine) -> u64 {
     let setup = default_setup();
     let mut apart: u64 = 0;
-    for target in 1u64..5 {
-        let at = (source * 4 + target - 5) as usize;
-        let time = transfer_time(setup, source, target);
-        let rate = transfer_rate(setup, source, target);
-        apart = plus(apart, one_if(time != theirs.times[at]));
-        apart = plus(apart, one_if(rate != theirs.linkrates[at]));
+    for to in Machine::ALL {
+        let link = Link { from, to };
+        let time = transfer_time(setup, from.number(), to.number());
+        let rate = transfer_rate(setup, from.number(), to.number());
+        apart = plus(apart, one_if(time != theirs.time(link)));
+        apart = plus(apart, one_if(rate != theirs.link_rate(link)));
     }
     apart
 }

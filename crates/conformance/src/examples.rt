@@ -1,12 +1,14 @@
 // The examples that document 01 leaves to a program.
 ghost use Rattle.reservation.specs.Registers.{Valid};
 
-use crate::both::{Both, advance, opened, parts_of, ratios_apart, submit, withdraw};
+use crate::both::{
+    Both, advance, opened, parts_of, ratios_apart, refusal_number, submit, withdraw,
+};
 use crate::counts::{Counts, differing};
 use crate::report::{print_figure, print_line};
 use builder::{alone, task};
 use console::Console;
-use reference::fresh;
+use reference::{Book, Refusal};
 use rules::Job;
 use tally::Tally;
 use workload::examples::one_row;
@@ -39,7 +41,7 @@ fn one_more(out: &mut Console, both: Both, number: u64) -> Both
     ensures { Valid result.register }
 {
     let more = submit(both, one_row(number));
-    print_figure(out, b"one row more beside ", both.book.count as u64);
+    print_figure(out, b"one row more beside ", both.book.rows().len() as u64);
     print_figure(out, b": answer=", more.ours);
     print_line(out, b" reference answer=", more.theirs);
     more
@@ -47,7 +49,7 @@ fn one_more(out: &mut Console, both: Both, number: u64) -> Both
 
 // With 255 rows a job of one row fits, with 256 it is refused 8.
 pub fn row_limit(out: &mut Console, counts: Counts) -> Counts {
-    let almost_full = filled(opened(fresh(), counts, 1), 256, false);
+    let almost_full = filled(opened(Book::new(), counts, 1), 256, false);
     let full = one_more(out, almost_full, 256);
     let beyond = one_more(out, full, 257);
     beyond.counts
@@ -57,12 +59,12 @@ pub fn row_limit(out: &mut Console, counts: Counts) -> Counts {
 fn print_total(out: &mut Console, both: Both) {
     let register = both.register;
     print_figure(out, b"total=", register.total());
-    print_line(out, b" reference total=", both.book.total);
+    print_line(out, b" reference total=", both.book.total());
 }
 
 // A full register of the largest costs; then a job is withdrawn, and a hundred end.
 pub fn largest_total(out: &mut Console, counts: Counts) -> Counts {
-    let full = filled(opened(fresh(), counts, 1), 257, true);
+    let full = filled(opened(Book::new(), counts, 1), 257, true);
     print_total(out, full);
     let less = withdraw(full, 200);
     print_total(out, less);
@@ -71,9 +73,9 @@ pub fn largest_total(out: &mut Console, counts: Counts) -> Counts {
     later.counts
 }
 
-fn print_parts(out: &mut Console, name: &[u8], number: u64, parts: u64) {
-    print_figure(out, name, number);
-    print_figure(out, b" parts=", parts);
+fn print_parts(out: &mut Console, name: &[u8], ratio: Result<u64, Refusal>) {
+    print_figure(out, name, refusal_number(ratio));
+    print_figure(out, b" parts=", ratio.unwrap_or(0));
 }
 
 fn ratio(out: &mut Console, counts: Counts, arrived: u32, admitted: u32) -> Counts {
@@ -85,15 +87,15 @@ fn ratio(out: &mut Console, counts: Counts, arrived: u32, admitted: u32) -> Coun
     let theirs = reference::ratio(arrived as u64, admitted as u64);
     print_figure(out, b"ratio of ", admitted as u64);
     print_figure(out, b" in ", arrived as u64);
-    print_parts(out, b": number=", ours.number, ours.parts);
-    print_parts(out, b" reference number=", theirs.number, theirs.parts);
+    print_parts(out, b": number=", ours);
+    print_parts(out, b" reference number=", theirs);
     out.println("");
     differing(counts, ratios_apart(tally, arrived as u64, admitted as u64))
 }
 
 // Two of three submissions are admitted.
 fn ratio_of_calls(out: &mut Console, counts: Counts) -> Counts {
-    let first = submit(opened(fresh(), counts, 1), one_row(1));
+    let first = submit(opened(Book::new(), counts, 1), one_row(1));
     let again = submit(first, one_row(1));
     let second = submit(again, one_row(2));
     let tally = second.tally;

@@ -6,7 +6,7 @@ use crate::calls::next_call;
 use crate::counts::{Counts, differing};
 use crate::report::print_list;
 use console::Console;
-use reference::{Book, fresh, planted};
+use reference::{Book, Link, Machine, Tables};
 use reservation::Register;
 use workload::draws::{next_seed, plus};
 use workload::shapes::{
@@ -50,7 +50,7 @@ fn several(
     let mut seed = plus(20_240_229, counts.calls);
     for i in 0..lists {
         seed = next_seed(seed);
-        all = one_list(fresh(), all, shape, calls, tick, seed);
+        all = one_list(Book::new(), all, shape, calls, tick, seed);
     }
     print_list(out, name, counts, all);
     all
@@ -79,5 +79,11 @@ pub fn all_lists(out: &mut Console, counts: Counts) -> Counts {
 
 // One list with a wrong time for the link from machine 2 to machine 3.
 pub fn with_wrong_link(counts: Counts) -> Counts {
-    one_list(planted(fresh(), 2, 3, 2), counts, trees(), 500, 0, 77)
+    let mut tables = Tables::new();
+    let link = Link {
+        from: Machine::Two,
+        to: Machine::Three,
+    };
+    tables.set_time(link, 2);
+    one_list(Book::with_tables(tables), counts, trees(), 500, 0, 77)
 }

@@ -15,13 +15,14 @@ use console::Console;
 use counts::{Counts, differing, nothing};
 use examples::{largest_total, ratios, row_limit};
 use lists::{all_lists, with_wrong_link};
-use reference::fresh;
+use reference::Tables;
 use report::{print_counts, print_line};
 use std::process::ExitCode;
 use workload::draws::plus;
 
 fn tables(out: &mut Console, counts: Counts) -> Counts {
-    let apart = plus(rates_apart(fresh()), links_apart(fresh()));
+    let theirs = Tables::new();
+    let apart = plus(rates_apart(&theirs), links_apart(&theirs));
     print_line(out, b"differences of the tables: ", apart);
     differing(counts, apart)
 }

@@ -3,255 +3,154 @@
 // call by call, so it shares nothing with it: its types and its tables of rates and link times are its own.
 //
 // It is proved safe and ending, for every book and every job; what it answers is not specified. A sum or a product that would not fit stays at
-// the largest number (figures.rt), and an index that is out of range reads nothing: neither happens with a book that comes from `fresh`.
+// the largest number. Figures in their ranges come nowhere near: a tick is below 10^10, a cost below 10^12.
 #![tactic(auto)]
 
-mod checks;
-mod figures;
+mod jobs;
+mod machines;
 mod placing;
+mod refusals;
 mod rows;
 mod slots;
 
-use checks::{hopeless_task, refusal_of_job};
-use figures::cell;
-use placing::{Plan, admitted, placed};
-use rows::{of_job, seen, without, without_finished};
+pub use jobs::{RefJob, RefMessage, RefTask};
+pub use machines::{Link, Machine, Resource, Tables};
+use placing::placed;
+pub use refusals::Refusal;
+use rows::Rows;
+pub use rows::{RefHolder, RefRow};
 
 // The last tick that the clock can be moved to.
-pub const HORIZON: u64 = 1000000000;
+pub const HORIZON: u64 = 1_000_000_000;
 
-#[derive(Clone, Copy)]
-pub struct RefTask {
-    pub deadline: u64,
-    pub dispatch: u64,
-    pub runs: [u64; 4],
-}
+const MOST_TASKS: usize = 16;
 
-#[derive(Clone, Copy)]
-pub struct RefMessage {
-    pub sender: u64,
-    pub receiver: u64,
-    pub volume: u64,
-}
+const MOST_MESSAGES: usize = 32;
 
-// Entries past the two counts are no part of the job.
-#[derive(Clone, Copy)]
-pub struct RefJob {
-    pub number: u64,
-    pub scheduling: u64,
-    pub taskcount: u64,
-    pub tasks: [RefTask; 16],
-    pub messagecount: u64,
-    pub messages: [RefMessage; 32],
-}
+// The most rows of a job: one for each task and each message.
+const JOB_ROWS: usize = MOST_TASKS + MOST_MESSAGES;
 
-// A booking. On a machine: machine and task, with target and sender 0. On a link: from machine to target, for the message from task sender
-// to task task.
-#[derive(Clone, Copy)]
-pub struct RefRow {
-    pub link: bool,
-    pub machine: u64,
-    pub target: u64,
-    pub sender: u64,
-    pub task: u64,
-    pub job: u64,
-    pub start: u64,
-    pub finish: u64,
-    pub cost: u64,
-}
+// The most rows held.
+const BOOK_ROWS: usize = 256;
 
-// The register with its tables: a rate for each machine, a time for each unit of volume and a rate for each link, at (from - 1) * 4 + to - 1.
+// The register with its tables.
 #[derive(Clone, Copy)]
 pub struct Book {
-    pub clock: u64,
-    pub count: usize,
-    pub total: u64,
-    pub rows: [RefRow; 256],
-    pub rates: [u64; 4],
-    pub times: [u64; 16],
-    pub linkrates: [u64; 16],
+    clock: u64,
+    rows: Rows<BOOK_ROWS>,
+    tables: Tables,
 }
 
+// What an accepted submission costs, and how many rows it takes.
 #[derive(Clone, Copy)]
-pub struct RefAnswer {
-    pub number: u64,
-    pub task: u64,
+pub struct Admission {
     pub cost: u64,
     pub rows: u64,
 }
 
-#[derive(Clone, Copy)]
-pub struct RefReply {
-    pub answer: RefAnswer,
-    pub book: Book,
-}
+impl Book {
+    // Clock 0, no rows, and the tables of document 01.
+    pub fn new() -> Self {
+        Self::with_tables(Tables::new())
+    }
 
-#[derive(Clone, Copy)]
-pub struct RefSeen {
-    pub number: u64,
-    pub booked: bool,
-    pub row: RefRow,
-}
+    pub fn with_tables(tables: Tables) -> Self {
+        Book {
+            clock: 0,
+            rows: Rows::new(),
+            tables,
+        }
+    }
 
-#[derive(Clone, Copy)]
-pub struct RefRatio {
-    pub number: u64,
-    pub parts: u64,
-}
+    pub fn clock(&self) -> u64 {
+        self.clock
+    }
 
-pub fn no_row() -> RefRow {
-    RefRow {
-        link: false,
-        machine: 0,
-        target: 0,
-        sender: 0,
-        task: 0,
-        job: 0,
-        start: 0,
-        finish: 0,
-        cost: 0,
+    // In the order that they were placed in.
+    pub fn rows(&self) -> &[RefRow] {
+        self.rows.as_slice()
     }
-}
 
-// Clock 0, no rows, total 0, and the tables of document 01.
-pub fn fresh() -> Book {
-    let row = no_row();
-    Book {
-        clock: 0,
-        count: 0,
-        total: 0,
-        rows: [row; 256],
-        rates: [10, 4, 10, 25],
-        times: [0, 2, 3, 1, 2, 0, 1, 4, 3, 1, 0, 2, 1, 4, 2, 0],
-        linkrates: [0, 5, 8, 6, 5, 0, 7, 9, 8, 7, 0, 5, 6, 9, 5, 0],
+    // The cost of all rows held.
+    pub fn total(&self) -> u64 {
+        self.rows.cost()
     }
-}
 
-// The book with another time for the link between two machines, in this direction alone: for showing that a comparison finds the fault.
-pub fn planted(book: Book, from: u64, to: u64, time: u64) -> Book {
-    let at = cell(from, to);
-    let mut changed = book;
-    if at < 16 {
-        changed.times[at] = time;
+    pub fn tables(&self) -> &Tables {
+        &self.tables
     }
-    changed
-}
 
-fn bare_reply(book: Book, number: u64, task: u64) -> RefReply {
-    RefReply {
-        answer: RefAnswer {
-            number: number,
-            task: task,
-            cost: 0,
-            rows: 0,
-        },
-        book: book,
+    // Refusals 1 to 8, in this order.
+    pub fn submit(&mut self, job: &RefJob) -> Result<Admission, Refusal> {
+        job.check()?;
+        if self.rows().iter().any(|row| row.job == job.number) {
+            return Err(Refusal::AlreadyHeld);
+        }
+        job.check_hope(self.clock)?;
+        let found = placed(self, job)?;
+        let rows = found.as_slice();
+        if !self.rows.has_room_for(rows.len()) {
+            return Err(Refusal::NoRoom);
+        }
+        for row in rows {
+            self.rows.push(*row);
+        }
+        Ok(Admission {
+            cost: found.cost(),
+            rows: rows.len() as u64,
+        })
     }
-}
 
-fn accepted(book: Book) -> RefReply {
-    bare_reply(book, 0, 0)
-}
+    // 9: the job is not held. 10: a row of it starts at or before the clock.
+    pub fn withdraw(&mut self, number: u64) -> Result<(), Refusal> {
+        let first = self
+            .rows()
+            .iter()
+            .filter(|row| row.job == number)
+            .map(|row| row.start)
+            .min()
+            .ok_or(Refusal::NotHeld)?;
+        if first <= self.clock {
+            return Err(Refusal::AlreadyBegun);
+        }
+        self.rows.retain(|row| row.job != number);
+        Ok(())
+    }
 
-// Refusals 1 to 8, in this order.
-pub fn submit(book: Book, job: RefJob) -> RefReply {
-    let wrong = refusal_of_job(job);
-    if wrong != 0 {
-        return bare_reply(book, wrong, 0);
+    // 11: below the clock. 12: above the horizon. Then each job leaves whose every row ends at or before the new clock.
+    pub fn advance(&mut self, tick: u64) -> Result<(), Refusal> {
+        if tick < self.clock {
+            return Err(Refusal::BeforeClock);
+        }
+        if HORIZON < tick {
+            return Err(Refusal::AfterHorizon);
+        }
+        self.clock = tick;
+        let held = self.rows;
+        self.rows.retain(|row| {
+            held.as_slice()
+                .iter()
+                .any(|other| other.job == row.job && tick < other.finish)
+        });
+        Ok(())
     }
-    if 0 < of_job(book, job.number).count {
-        return bare_reply(book, 5, 0);
-    }
-    let hopeless = hopeless_task(book.clock, job);
-    if hopeless != 0 {
-        return bare_reply(book, 6, hopeless);
-    }
-    let plan = placed(book, job);
-    if plan.late != 0 {
-        return bare_reply(book, 7, plan.late);
-    }
-    if 256 < plan.count {
-        return bare_reply(book, 8, 0);
-    }
-    admission(book, plan)
-}
 
-fn admission(book: Book, plan: Plan) -> RefReply {
-    RefReply {
-        answer: RefAnswer {
-            number: 0,
-            task: 0,
-            cost: plan.cost,
-            rows: plan.found,
-        },
-        book: admitted(book, plan),
-    }
-}
-
-// 9: the job is not held. 10: a row of it starts at or before the clock.
-pub fn withdraw(book: Book, number: u64) -> RefReply {
-    let held = of_job(book, number);
-    if held.count == 0 {
-        return bare_reply(book, 9, 0);
-    }
-    if held.first <= book.clock {
-        return bare_reply(book, 10, 0);
-    }
-    accepted(without(book, number))
-}
-
-// 11: below the clock. 12: above the horizon. Then each job leaves whose every row ends at or before the new clock.
-pub fn move_clock(book: Book, tick: u64) -> RefReply {
-    if tick < book.clock {
-        return bare_reply(book, 11, 0);
-    }
-    if HORIZON < tick {
-        return bare_reply(book, 12, 0);
-    }
-    let mut moved = book;
-    moved.clock = tick;
-    accepted(without_finished(moved))
-}
-
-// 13: no such machine. Else the row of the machine that holds the tick, if there is one.
-pub fn look(book: Book, machine: u64, tick: u64) -> RefSeen {
-    if machine == 0 {
-        return unseen(13);
-    }
-    if 4 < machine {
-        return unseen(13);
-    }
-    seen(book, machine, tick)
-}
-
-pub fn unseen(number: u64) -> RefSeen {
-    RefSeen {
-        number: number,
-        booked: false,
-        row: no_row(),
+    // 13: no such machine. Else the row of the machine that holds the tick, if there is one. Rows of one machine share no tick.
+    pub fn look(&self, machine: u64, tick: u64) -> Result<Option<RefRow>, Refusal> {
+        let resource = Resource::Machine(Machine::try_from(machine)?);
+        Ok(
+            self.rows()
+                .iter()
+                .find(|row| row.takes(resource) && row.holds(tick))
+                .copied(),
+        )
     }
 }
 
 // 18: nothing arrived, or less than was admitted. The counters of a tally are at most 4,294,967,295, so a larger one is refused alike.
-pub fn ratio(arrived: u64, admitted: u64) -> RefRatio {
-    if arrived == 0 {
-        return no_ratio();
+pub fn ratio(arrived: u64, admitted: u64) -> Result<u64, Refusal> {
+    if arrived == 0 || u64::from(u32::MAX) < arrived || arrived < admitted {
+        return Err(Refusal::NoRatio);
     }
-    if 4294967295 < arrived {
-        return no_ratio();
-    }
-    if arrived < admitted {
-        return no_ratio();
-    }
-    RefRatio {
-        number: 0,
-        parts: 10000 * admitted / arrived,
-    }
-}
-
-fn no_ratio() -> RefRatio {
-    RefRatio {
-        number: 18,
-        parts: 0,
-    }
+    Ok(10_000 * admitted / arrived)
 }

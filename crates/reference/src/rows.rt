@@ -1,127 +1,111 @@
-// The rows held: a job's rows, adding one, removing a job's, and the row at a tick.
-use crate::figures::{MOST, greater, plus};
-use crate::{Book, RefRow, RefSeen, no_row, unseen};
+// A row, and a list of rows in memory of a fixed size.
+ghost use Rattle.std.specs.Prelude.{◌≤◌};
 
-// A job's rows: how many, the earliest start (MOST with no row) and the last finish. A job is held if it has a row.
+use crate::machines::{Link, Machine, Resource};
+
+// What holds a row: a task on a machine, or a message on a link, from one task to another.
 #[derive(Clone, Copy)]
-pub struct Held {
-    pub count: u64,
-    pub first: u64,
-    pub last: u64,
+pub enum RefHolder {
+    Task {
+        machine: Machine,
+        task: u64,
+    },
+    Message {
+        link: Link,
+        sender: u64,
+        receiver: u64,
+    },
 }
 
-pub fn of_job(book: Book, number: u64) -> Held {
-    let mut held = Held {
-        count: 0,
-        first: MOST,
-        last: 0,
-    };
-    for i in 0..256 {
-        if i < book.count {
-            held = with_row(held, book.rows[i], number);
+// A booking. Its span holds its start and not its finish.
+#[derive(Clone, Copy)]
+pub struct RefRow {
+    pub holder: RefHolder,
+    pub job: u64,
+    pub start: u64,
+    pub finish: u64,
+    pub cost: u64,
+}
+
+impl RefRow {
+    pub fn takes(&self, resource: Resource) -> bool {
+        resource
+            == match self.holder {
+                RefHolder::Task { machine, .. } => Resource::Machine(machine),
+                RefHolder::Message { link, .. } => Resource::Link(link),
+            }
+    }
+
+    pub fn holds(&self, tick: u64) -> bool {
+        (self.start..self.finish).contains(&tick)
+    }
+
+    // The row shares a tick with the span from start to finish.
+    pub fn meets(&self, start: u64, finish: u64) -> bool {
+        self.start < finish && start < self.finish
+    }
+}
+
+// What stands in the places that no row has taken.
+const BLANK: RefRow = RefRow {
+    holder: RefHolder::Task {
+        machine: Machine::One,
+        task: 0,
+    },
+    job: 0,
+    start: 0,
+    finish: 0,
+    cost: 0,
+};
+
+// At most MOST rows. A book is copied with its rows, which an ArrayVec's cannot be.
+#[derive(Clone, Copy)]
+pub struct Rows<const MOST: usize> {
+    places: [RefRow; MOST],
+    count: usize,
+    ghost within: { count ≤ MOST },
+}
+
+impl<const MOST: usize> Rows<MOST> {
+    pub fn new() -> Self {
+        Rows {
+            places: [BLANK; MOST],
+            count: 0,
         }
     }
-    held
-}
 
-fn with_row(held: Held, row: RefRow, number: u64) -> Held {
-    if row.job != number {
-        return held;
+    pub fn as_slice(&self) -> &[RefRow] {
+        &self.places[..self.count]
     }
-    Held {
-        count: plus(held.count, 1),
-        first: if row.start < held.first {
-            row.start
-        } else {
-            held.first
-        },
-        last: greater(held.last, row.finish),
+
+    pub fn has_room_for(&self, more: usize) -> bool {
+        more <= MOST - self.count
     }
-}
 
-// The book with one row more, after the others, and its cost in the total. A full book is left as it is; `submit` refuses before that.
-pub fn appended(book: Book, row: RefRow) -> Book {
-    let mut longer = book;
-    let at = longer.count;
-    if at < 256 {
-        longer.rows[at] = row;
-        longer.count = at + 1;
-        longer.total = plus(longer.total, row.cost);
+    // A full list is left as it is. The callers see that there is room.
+    pub fn push(&mut self, row: RefRow) {
+        if self.count < MOST {
+            self.places[self.count] = row;
+            self.count += 1;
+        }
     }
-    longer
-}
 
-// The same clock and tables, with no rows.
-fn emptied(book: Book) -> Book {
-    let mut empty = book;
-    let row = no_row();
-    empty.rows = [row; 256];
-    empty.count = 0;
-    empty.total = 0;
-    empty
-}
-
-// The rows of all other jobs, in order. The total is the sum of the rows' costs, so it is made again from those that stay.
-pub fn without(book: Book, number: u64) -> Book {
-    let mut left = emptied(book);
-    for i in 0..256 {
-        if i < book.count {
-            if book.rows[i].job != number {
-                left = appended(left, book.rows[i]);
+    // Leaves the rows that the caller keeps, in order.
+    pub fn retain<F: Fn(&RefRow) -> bool>(&mut self, keeps: F)
+        requires { F.IsAlwaysCallable keeps }
+    {
+        let mut left = Self::new();
+        for row in self.as_slice() {
+            if keeps(row) {
+                left.push(*row);
             }
         }
+        *self = left;
     }
-    left
-}
 
-// Every job whose last finish the clock has reached is removed.
-pub fn without_finished(book: Book) -> Book {
-    let mut left = book;
-    for i in 0..256 {
-        if i < book.count {
-            left = without_if_finished(left, book.rows[i].job);
-        }
+    pub fn cost(&self) -> u64 {
+        self.as_slice()
+            .iter()
+            .fold(0, |sum: u64, row| sum.saturating_add(row.cost))
     }
-    left
-}
-
-fn without_if_finished(book: Book, number: u64) -> Book {
-    let held = of_job(book, number);
-    if held.count == 0 {
-        return book;
-    }
-    if held.last <= book.clock {
-        return without(book, number);
-    }
-    book
-}
-
-// The row of the machine that holds the tick. Rows of one machine share no tick, so there is at most one.
-pub fn seen(book: Book, machine: u64, tick: u64) -> RefSeen {
-    let mut found = unseen(0);
-    for i in 0..256 {
-        if i < book.count {
-            if holds_tick(book.rows[i], machine, tick) {
-                found = RefSeen {
-                    number: 0,
-                    booked: true,
-                    row: book.rows[i],
-                };
-            }
-        }
-    }
-    found
-}
-
-fn holds_tick(row: RefRow, machine: u64, tick: u64) -> bool {
-    if row.link {
-        return false;
-    }
-    if row.machine != machine {
-        return false;
-    }
-    if tick < row.start {
-        return false;
-    }
-    tick < row.finish
 }

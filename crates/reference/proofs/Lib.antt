@@ -1,2 +1,0 @@
--- What the proofs of the second scheduler share.
-pub mod Sizes

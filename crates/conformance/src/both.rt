@@ -61,10 +61,7 @@ fn held_apart(counts: Counts, register: Register, book: &Book) -> Counts
 
 // The number of a refusal, or 0.
 pub fn refusal_number<T: Copy>(answer: Result<T, Refusal>) -> u64 {
-    match answer {
-        Ok(_) => 0,
-        Err(refusal) => refusal.number(),
-    }
+    answer.err().map_or(0, Refusal::number)
 }
 
 // Both sides have answered.
@@ -175,9 +172,5 @@ pub fn parts_of(tally: Tally) -> Result<u64, Refusal> {
 
 // The ratio of a list's submissions, 1 where the two sides differ.
 pub fn ratios_apart(tally: Tally, arrived: u64, admitted: u64) -> u64 {
-    if parts_of(tally) == reference::ratio(arrived, admitted) {
-        0
-    } else {
-        1
-    }
+    u64::from(parts_of(tally) != reference::ratio(arrived, admitted))
 }

@@ -138,18 +138,19 @@ fn view_of(book: &Book, shape: Shape, seed: u64) -> View {
 
 // The machine of a row, or the sending one of a link; none where no row is held.
 fn view_of_row(row: Option<RefRow>, seed: u64) -> View {
-    match row {
-        Some(row) => View {
-            machine: match row.holder {
-                RefHolder::Task { machine, .. } => machine.number(),
-                RefHolder::Message { link, .. } => link.from.number(),
-            },
-            tick: tick_beside(row.start, row.finish, seed),
-        },
-        None => View {
+    let Some(row) = row else {
+        return View {
             machine: 0,
             tick: tick_beside(0, 0, seed),
-        },
+        };
+    };
+    let machine = match row.holder {
+        RefHolder::Task { machine, .. } => machine,
+        RefHolder::Message { link, .. } => link.from,
+    };
+    View {
+        machine: machine.number(),
+        tick: tick_beside(row.start, row.finish, seed),
     }
 }
 

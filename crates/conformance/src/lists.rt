@@ -84,6 +84,6 @@ pub fn with_wrong_link(counts: Counts) -> Counts {
         from: Machine::Two,
         to: Machine::Three,
     };
-    tables.set_time(link, 2);
+    tables.set_link_time(link, 2);
     one_list(Book::with_tables(tables), counts, trees(), 500, 0, 77)
 }

@@ -25,7 +25,8 @@ pub struct RefMessage {
     pub volume: u64,
 }
 
-// Tasks are numbered from 1. Entries past the two counts are no part of the job.
+// A job as submitted: the two counts may be out of range, which `check` refuses. Tasks are numbered from 1. Entries past the counts are no part
+// of the job.
 #[derive(Clone, Copy)]
 pub struct RefJob {
     pub number: u64,
@@ -38,7 +39,7 @@ pub struct RefJob {
 
 impl RefTask {
     // The run time on a machine that can run the task.
-    pub fn run_on(&self, machine: Machine) -> Option<u64> {
+    pub(crate) fn run_on(&self, machine: Machine) -> Option<u64> {
         Some(self.runs[machine as usize]).filter(|run| *run != 0)
     }
 
@@ -51,8 +52,8 @@ impl RefTask {
     // No machine that begins it at the clock ends it by its deadline.
     fn is_hopeless(&self, clock: u64) -> bool {
         !Machine::ALL
-            .iter()
-            .filter_map(|machine| self.run_on(*machine))
+            .into_iter()
+            .filter_map(|machine| self.run_on(machine))
             .any(|run| clock.saturating_add(run) <= self.deadline)
     }
 }
@@ -78,18 +79,18 @@ impl RefJob {
     }
 
     // Refusals 1 to 4, the first that holds.
-    pub fn check(&self) -> Result<(), Refusal> {
+    pub(crate) fn check(&self) -> Result<(), Refusal> {
         if !(1..=LAST_JOB).contains(&self.number) {
-            return Err(Refusal::WrongNumber);
+            return Err(Refusal::NumberOutOfRange);
         }
         if !self.counts_right() {
-            return Err(Refusal::WrongCounts);
+            return Err(Refusal::CountOutOfRange);
         }
         if !self.figures_right() {
-            return Err(Refusal::WrongFigures);
+            return Err(Refusal::FigureOutOfRange);
         }
         if !self.messages_right() {
-            return Err(Refusal::WrongMessages);
+            return Err(Refusal::WrongMessage);
         }
         Ok(())
     }
@@ -114,14 +115,13 @@ impl RefJob {
                 .is_sorted_by(|a, b| (a.receiver, a.sender) < (b.receiver, b.sender))
     }
 
-    // Refusal 6: the first task that is hopeless.
-    pub fn check_hope(&self, clock: u64) -> Result<(), Refusal> {
-        match (1..)
-            .zip(self.tasks())
-            .find(|(_, task)| task.is_hopeless(clock))
-        {
-            Some((number, _)) => Err(Refusal::HopelessTask(number)),
-            None => Ok(()),
+    // Refusal 6, for the first task that is hopeless.
+    pub(crate) fn check_hope(&self, clock: u64) -> Result<(), Refusal> {
+        for (number, task) in (1..).zip(self.tasks()) {
+            if task.is_hopeless(clock) {
+                return Err(Refusal::HopelessTask(number));
+            }
         }
+        Ok(())
     }
 }

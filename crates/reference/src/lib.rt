@@ -2,7 +2,7 @@
 // of a machine or a link is the least among a few candidate ticks, each tested against every row. It is there to be compared with the register
 // call by call, so it shares nothing with it: its types and its tables of rates and link times are its own.
 //
-// It is proved safe and ending, for every book and every job; what it answers is not specified. A sum or a product that would not fit stays at
+// It is proved safe and ending, for every book and every job; what it answers is not specified, but that machines are numbered from 1 to 4. A sum or a product that would not fit stays at
 // the largest number. Figures in their ranges come nowhere near: a tick is below 10^10, a cost below 10^12.
 #![tactic(auto)]
 
@@ -90,7 +90,7 @@ impl Book {
         let found = placed(self, job)?;
         let rows = found.as_slice();
         if !self.rows.has_room_for(rows.len()) {
-            return Err(Refusal::NoRoom);
+            return Err(Refusal::TooManyRows);
         }
         for row in rows {
             self.rows.push(*row);
@@ -141,7 +141,7 @@ impl Book {
         Ok(
             self.rows()
                 .iter()
-                .find(|row| row.takes(resource) && row.holds(tick))
+                .find(|row| row.holder.resource() == resource && row.holds(tick))
                 .copied(),
         )
     }

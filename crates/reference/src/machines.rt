@@ -50,38 +50,37 @@ pub enum Resource {
     Link(Link),
 }
 
-// A rate for each machine, and for each link a time for a unit of volume and a rate, by machine of departure and then of arrival.
+// What a tick of each machine and each link costs, and the time of a unit of volume on each link: by the sending machine, then the receiving one.
 #[derive(Clone, Copy)]
 pub struct Tables {
-    rates: [u64; 4],
-    times: [[u64; 4]; 4],
+    machine_rates: [u64; 4],
     link_rates: [[u64; 4]; 4],
+    link_times: [[u64; 4]; 4],
 }
 
 impl Tables {
     // Those of document 01.
     pub fn new() -> Self {
         Tables {
-            rates: [10, 4, 10, 25],
-            times: [[0, 2, 3, 1], [2, 0, 1, 4], [3, 1, 0, 2], [1, 4, 2, 0]],
+            machine_rates: [10, 4, 10, 25],
             link_rates: [[0, 5, 8, 6], [5, 0, 7, 9], [8, 7, 0, 5], [6, 9, 5, 0]],
+            link_times: [[0, 2, 3, 1], [2, 0, 1, 4], [3, 1, 0, 2], [1, 4, 2, 0]],
         }
     }
 
-    pub fn rate(&self, machine: Machine) -> u64 {
-        self.rates[machine as usize]
+    pub fn rate(&self, resource: Resource) -> u64 {
+        match resource {
+            Resource::Machine(machine) => self.machine_rates[machine as usize],
+            Resource::Link(link) => self.link_rates[link.from as usize][link.to as usize],
+        }
     }
 
-    pub fn time(&self, link: Link) -> u64 {
-        self.times[link.from as usize][link.to as usize]
-    }
-
-    pub fn link_rate(&self, link: Link) -> u64 {
-        self.link_rates[link.from as usize][link.to as usize]
+    pub fn link_time(&self, link: Link) -> u64 {
+        self.link_times[link.from as usize][link.to as usize]
     }
 
     // Another time for a link, in this direction alone: for showing that a comparison finds the fault.
-    pub fn set_time(&mut self, link: Link, time: u64) {
-        self.times[link.from as usize][link.to as usize] = time;
+    pub fn set_link_time(&mut self, link: Link, time: u64) {
+        self.link_times[link.from as usize][link.to as usize] = time;
     }
 }

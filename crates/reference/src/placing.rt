@@ -1,6 +1,6 @@
 // Placing a job: DRCD, task by task, each on the machine of its best trial.
 use crate::jobs::{RefJob, RefMessage, RefTask};
-use crate::machines::{Link, Machine, Resource};
+use crate::machines::{Link, Machine};
 use crate::refusals::Refusal;
 use crate::rows::{RefHolder, RefRow, Rows};
 use crate::slots::Usage;
@@ -61,11 +61,11 @@ impl<'a> Plan<'a> {
             .min_by_key(|(_, task)| task.deadline)
     }
 
+    // It has no place yet, and each task that sends to it has one.
     fn can_place(&self, number: u64) -> bool {
+        let messages = self.job.messages();
         self.place_of(number).is_none()
-            && self
-                .job
-                .messages()
+            && messages
                 .iter()
                 .filter(|message| message.receiver == number)
                 .all(|message| self.place_of(message.sender).is_some())
@@ -76,45 +76,6 @@ impl<'a> Plan<'a> {
         self.places.get(at).copied().flatten()
     }
 
-    // The task's floor has the dispatch times of this job's tasks placed so far, its own included. The machines are tried from the same plan, and
-    // the good trial of lowest cost is kept, then of earliest start, then of the lowest machine.
-    fn place(&mut self, number: u64, task: &RefTask) -> Result<(), Refusal> {
-        self.floor = self.floor.saturating_add(task.dispatch);
-        let best = Machine::ALL
-            .iter()
-            .filter_map(|machine| self.trial(number, task, *machine))
-            .min_by_key(|trial| (trial.plan.rows.cost(), trial.start))
-            .ok_or(Refusal::LateTask(number))?;
-        *self = best.plan;
-        Ok(())
-    }
-
-    // The task's row costs machine rate times run time.
-    fn trial(&self, number: u64, task: &RefTask, machine: Machine) -> Option<Trial<'a>> {
-        let run = task.run_on(machine)?;
-        let mut plan = *self;
-        let ready = plan.inputs_ready(number, machine);
-        let start = plan
-            .usage(Resource::Machine(machine))
-            .least_free(ready, run);
-        let finish = start.saturating_add(run);
-        if task.deadline < finish {
-            return None;
-        }
-        plan.rows.push(RefRow {
-            holder: RefHolder::Task {
-                machine,
-                task: number,
-            },
-            job: self.job.number,
-            start,
-            finish,
-            cost: self.book.tables().rate(machine).saturating_mul(run),
-        });
-        plan.set_place(number, Place { machine, finish });
-        Some(Trial { start, plan })
-    }
-
     fn set_place(&mut self, number: u64, place: Place) {
         if let Some(at) = number.checked_sub(1)
             && let Some(entry) = self.places.get_mut(at as usize)
@@ -123,23 +84,80 @@ impl<'a> Plan<'a> {
         }
     }
 
-    // Sends the messages into the task by ascending sender, which is the order that they stand in. The latest of the task's floor and their
-    // arrivals.
-    fn inputs_ready(&mut self, number: u64, machine: Machine) -> u64 {
+    // The task's floor has the dispatch times of this job's tasks placed so far, its own included. The machines are tried from the same plan, and
+    // the good trial of lowest cost is kept, then of earliest start, then of the lowest machine.
+    fn place(&mut self, number: u64, task: &RefTask) -> Result<(), Refusal> {
+        self.floor = self.floor.saturating_add(task.dispatch);
+        let best = Machine::ALL
+            .into_iter()
+            .filter_map(|machine| self.trial(number, task, machine))
+            .min_by_key(|trial| (trial.plan.rows.cost(), trial.start))
+            .ok_or(Refusal::LateTask(number))?;
+        *self = best.plan;
+        Ok(())
+    }
+
+    // None where the machine cannot run the task, or does not end it by its deadline.
+    fn trial(&self, number: u64, task: &RefTask, machine: Machine) -> Option<Trial<'a>> {
+        let run = task.run_on(machine)?;
+        let mut plan = *self;
+        let ready = plan.send_inputs(number, machine);
+        let holder = RefHolder::Task {
+            machine,
+            task: number,
+        };
+        let row = plan.add_row(holder, ready, run);
+        if task.deadline < row.finish {
+            return None;
+        }
+        let place = Place {
+            machine,
+            finish: row.finish,
+        };
+        plan.set_place(number, place);
+        Some(Trial {
+            start: row.start,
+            plan,
+        })
+    }
+
+    // Books a row for a holder, from the least free tick on that is not before ready. It costs its rate times its length.
+    fn add_row(&mut self, holder: RefHolder, ready: u64, length: u64) -> RefRow {
+        let resource = holder.resource();
+        let usage = Usage {
+            resource,
+            held: self.book.rows(),
+            found: self.rows.as_slice(),
+        };
+        let start = usage.least_free(ready, length);
+        let row = RefRow {
+            holder,
+            job: self.job.number,
+            start,
+            finish: start.saturating_add(length),
+            cost: self.book.tables().rate(resource).saturating_mul(length),
+        };
+        self.rows.push(row);
+        row
+    }
+
+    // The messages into the task by ascending sender, which is the order that they stand in: a row counts for the next. It answers the latest of
+    // the task's floor and their arrivals.
+    fn send_inputs(&mut self, number: u64, machine: Machine) -> u64 {
         let mut ready = self.floor;
         for message in self.job.messages() {
             if message.receiver == number
                 && let Some(sender) = self.place_of(message.sender)
             {
-                ready = ready.max(self.arrival(message, sender, machine));
+                ready = ready.max(self.send(message, sender, machine));
             }
         }
         ready
     }
 
-    // From another machine and with a volume, a message takes a row of the link and arrives at its finish. Any other takes none and arrives at its
-    // sender's finish.
-    fn arrival(&mut self, message: &RefMessage, sender: Place, machine: Machine) -> u64 {
+    // From another machine and with a volume, a message takes a row of the link, for link time times volume, and arrives at its finish. Any other
+    // takes none and arrives at its sender's finish.
+    fn send(&mut self, message: &RefMessage, sender: Place, machine: Machine) -> u64 {
         if message.volume == 0 || sender.machine == machine {
             return sender.finish;
         }
@@ -147,35 +165,13 @@ impl<'a> Plan<'a> {
             from: sender.machine,
             to: machine,
         };
-        self.send(message, link, sender.finish)
-    }
-
-    // Link time times volume, from the least free tick of the link not before the sender's finish. The row costs link rate times that length, and
-    // counts for the task's next message.
-    fn send(&mut self, message: &RefMessage, link: Link, sent: u64) -> u64 {
-        let tables = self.book.tables();
-        let length = tables.time(link).saturating_mul(message.volume);
-        let start = self.usage(Resource::Link(link)).least_free(sent, length);
-        let finish = start.saturating_add(length);
-        self.rows.push(RefRow {
-            holder: RefHolder::Message {
-                link,
-                sender: message.sender,
-                receiver: message.receiver,
-            },
-            job: self.job.number,
-            start,
-            finish,
-            cost: tables.link_rate(link).saturating_mul(length),
-        });
-        finish
-    }
-
-    fn usage(&self, resource: Resource) -> Usage<'_> {
-        Usage {
-            resource,
-            held: self.book.rows(),
-            found: self.rows.as_slice(),
-        }
+        let holder = RefHolder::Message {
+            link,
+            sender: message.sender,
+            receiver: message.receiver,
+        };
+        let time = self.book.tables().link_time(link);
+        let length = time.saturating_mul(message.volume);
+        self.add_row(holder, sender.finish, length).finish
     }
 }

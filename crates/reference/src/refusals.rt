@@ -2,15 +2,15 @@
 
 #[derive(Clone, Copy, PartialEq, Eq)]
 pub enum Refusal {
-    WrongNumber,
-    WrongCounts,
-    WrongFigures,
-    WrongMessages,
+    NumberOutOfRange,
+    CountOutOfRange,
+    FigureOutOfRange,
+    WrongMessage,
     AlreadyHeld,
-    // These two name the task.
+    // This one and the next name the task.
     HopelessTask(u64),
     LateTask(u64),
-    NoRoom,
+    TooManyRows,
     NotHeld,
     AlreadyBegun,
     BeforeClock,
@@ -23,14 +23,14 @@ impl Refusal {
     // The number that document 01 gives it.
     pub fn number(self) -> u64 {
         match self {
-            Refusal::WrongNumber => 1,
-            Refusal::WrongCounts => 2,
-            Refusal::WrongFigures => 3,
-            Refusal::WrongMessages => 4,
+            Refusal::NumberOutOfRange => 1,
+            Refusal::CountOutOfRange => 2,
+            Refusal::FigureOutOfRange => 3,
+            Refusal::WrongMessage => 4,
             Refusal::AlreadyHeld => 5,
             Refusal::HopelessTask(_) => 6,
             Refusal::LateTask(_) => 7,
-            Refusal::NoRoom => 8,
+            Refusal::TooManyRows => 8,
             Refusal::NotHeld => 9,
             Refusal::AlreadyBegun => 10,
             Refusal::BeforeClock => 11,

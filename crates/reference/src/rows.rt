@@ -27,21 +27,22 @@ pub struct RefRow {
     pub cost: u64,
 }
 
-impl RefRow {
-    pub fn takes(&self, resource: Resource) -> bool {
-        resource
-            == match self.holder {
-                RefHolder::Task { machine, .. } => Resource::Machine(machine),
-                RefHolder::Message { link, .. } => Resource::Link(link),
-            }
+impl RefHolder {
+    pub(crate) fn resource(self) -> Resource {
+        match self {
+            RefHolder::Task { machine, .. } => Resource::Machine(machine),
+            RefHolder::Message { link, .. } => Resource::Link(link),
+        }
     }
+}
 
-    pub fn holds(&self, tick: u64) -> bool {
+impl RefRow {
+    pub(crate) fn holds(&self, tick: u64) -> bool {
         (self.start..self.finish).contains(&tick)
     }
 
     // The row shares a tick with the span from start to finish.
-    pub fn meets(&self, start: u64, finish: u64) -> bool {
+    pub(crate) fn meets(&self, start: u64, finish: u64) -> bool {
         self.start < finish && start < self.finish
     }
 }
@@ -58,18 +59,18 @@ const BLANK: RefRow = RefRow {
     cost: 0,
 };
 
-// At most MOST rows. A book is copied with its rows, which an ArrayVec's cannot be.
+// Up to so many rows, in order. An ArrayVec would do, but it is not Copy, and books and plans are copied.
 #[derive(Clone, Copy)]
-pub struct Rows<const MOST: usize> {
-    places: [RefRow; MOST],
+pub struct Rows<const CAPACITY: usize> {
+    places: [RefRow; CAPACITY],
     count: usize,
-    ghost within: { count ≤ MOST },
+    ghost within: { count ≤ CAPACITY },
 }
 
-impl<const MOST: usize> Rows<MOST> {
+impl<const CAPACITY: usize> Rows<CAPACITY> {
     pub fn new() -> Self {
         Rows {
-            places: [BLANK; MOST],
+            places: [BLANK; CAPACITY],
             count: 0,
         }
     }
@@ -79,12 +80,12 @@ impl<const MOST: usize> Rows<MOST> {
     }
 
     pub fn has_room_for(&self, more: usize) -> bool {
-        more <= MOST - self.count
+        more <= CAPACITY - self.count
     }
 
-    // A full list is left as it is. The callers see that there is room.
+    // A full list is left as it is: a job has a row for each task and message at most, and a book is asked for room first.
     pub fn push(&mut self, row: RefRow) {
-        if self.count < MOST {
+        if self.count < CAPACITY {
             self.places[self.count] = row;
             self.count += 1;
         }

@@ -21,19 +21,20 @@ impl Usage<'_> {
         self.held
             .iter()
             .chain(self.found)
-            .filter(|row| row.takes(self.resource) && ready <= row.finish)
+            .filter(|row| row.holder.resource() == self.resource)
             .map(|row| row.finish)
-            .filter(|tick| self.is_free(*tick, length))
+            .filter(|tick| ready <= *tick && self.is_free(*tick, length))
             .min()
             .unwrap_or(u64::MAX)
     }
 
     fn is_free(&self, start: u64, length: u64) -> bool {
         let finish = start.saturating_add(length);
-        !self
+        let mut rows = self
             .held
             .iter()
             .chain(self.found)
-            .any(|row| row.takes(self.resource) && row.meets(start, finish))
+            .filter(|row| row.holder.resource() == self.resource);
+        !rows.any(|row| row.meets(start, finish))
     }
 }

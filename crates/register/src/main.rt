@@ -1,11 +1,11 @@
 // The program `register`: a script on standard input, answers and a listing on standard output. What fails is said on standard error.
 #![tactic(auto)]
 
-ghost use Rattle.std.specs.Prelude.{◌≡◌, ◌<◌, length, take, OnOk, IfSome, IfErr, IsErrOf};
+ghost use Rattle.std.specs.Prelude.{◌≡◌, ◌+◌, ◌<◌, ◌≤◌, length, take, OnOk, IfOk, IfSome, IfErr, IsErrOf};
 ghost use Rattle.std.specs.Io.KnownBytes.{Keeps, Appends};
 ghost use Rattle.rules.specs.Words.{setup_by_default};
-ghost use Rattle.script.specs.Program.{program};
-ghost use Rattle.register.specs.Reading.{ReadInto, ReadsNext, AskBuffer, ReadAll, HoldsInput};
+ghost use Rattle.script.specs.Program.{program, input_limit};
+ghost use Rattle.register.specs.Reading.{ReadsNext, AskBuffer, HoldsInput};
 
 use script::{INPUT, OUTPUT, run};
 use std::fmt;
@@ -15,24 +15,8 @@ use std::process::ExitCode;
 // One byte more than the largest input, so that an input above it is noticed.
 const BUFFER: usize = INPUT + 1;
 
-// What one read came to: the place after its bytes, the end of the input, or a failure.
-#[derive(Clone, Copy)]
-enum Got {
-    Bytes(usize),
-    End,
-    Error,
-}
-
-// What reading came to: the whole input, more than the largest one, each with its count of bytes, or a read that failed.
-#[derive(Clone, Copy)]
-enum Input {
-    Whole(usize),
-    Above(usize),
-    Failed,
-}
-
 // What of the program failed.
-#[derive(Clone, Copy)]
+#[derive(Clone, Copy, PartialEq, Eq)]
 enum Failure {
     Reading,
     Writing,
@@ -40,42 +24,41 @@ enum Failure {
 
 impl fmt::Display for Failure {
     fn fmt<W: fmt::Write>(&self, f: &mut fmt::Formatter<W>) -> fmt::Result {
-        match self {
-            Failure::Reading => write!(f, "register: reading the input failed"),
-            Failure::Writing => write!(f, "register: writing the output failed"),
-        }
+        f.write_str(match self {
+            Failure::Reading => "register: reading the input failed",
+            Failure::Writing => "register: writing the output failed",
+        })
     }
 }
 
-// One read into the buffer from a place on. There is room for a byte, so no byte is the end of the input.
-fn read_into<R: Read>(reader: &mut R, buffer: &mut [u8], at: usize) -> Got
+// One read into the buffer from a place on. It answers the place after the bytes that came: there is room for one, so none is the end of the input.
+fn read_into<R: Read>(reader: &mut R, buffer: &mut [u8], at: usize) -> Result<usize, Failure>
     requires { at < length buffer.old }
-    ensures place { ReadInto (length buffer.old) at result }
+    ensures place { IfOk result (λ next. (at ≤ next) × (next ≤ length buffer.old)) }
     ensures bytes { ReadsNext (R.remaining reader.old) (R.remaining reader.new) buffer.new at result }
     ensures kept { take at buffer.new ≡ take at buffer.old }
 {
     match reader.read(&mut buffer[at..]) {
-        Ok(0) => Got::End,
-        Ok(count) => Got::Bytes(at + count),
-        Err(_) => Got::Error,
+        Ok(count) => Ok(at + count),
+        Err(_) => Err(Failure::Reading),
     }
 }
 
-// Reads to the end of the input, or until it is above the largest.
-fn read_all<R: Read>(reader: &mut R, buffer: &mut [u8]) -> Input
+// Reads to the end of the input, or until it is above the largest, and answers how many bytes there are.
+fn read_all<R: Read>(reader: &mut R, buffer: &mut [u8]) -> Result<usize, Failure>
     requires { AskBuffer buffer.old }
-    ensures place { ReadAll result }
-    ensures bytes { HoldsInput (R.remaining reader.old) buffer.new result }
+    ensures place { IfOk result (λ count. count ≤ input_limit + 1) }
+    ensures bytes { IfOk result (HoldsInput (R.remaining reader.old) buffer.new) }
 {
     let mut at = 0;
     while at <= INPUT {
-        match read_into(reader, buffer, at) {
-            Got::Bytes(next) => at = next,
-            Got::End => return Input::Whole(at),
-            Got::Error => return Input::Failed,
+        let next = read_into(reader, buffer, at)?;
+        if next == at {
+            break;
         }
+        at = next;
     }
-    Input::Above(at)
+    Ok(at)
 }
 
 // Writes what the input prints.
@@ -86,10 +69,9 @@ fn answer<W: Write>(writer: &mut W, input: &[u8]) -> Result<(), Failure>
 {
     let mut output = [0u8; OUTPUT];
     let count = run(input, &mut output);
-    match writer.write_all(&output[..count]) {
-        Ok(()) => Ok(()),
-        Err(_) => Err(Failure::Writing),
-    }
+    writer
+        .write_all(&output[..count])
+        .map_err(|_| Failure::Writing)
 }
 
 // The program between its streams: all of the input is read, and then all that it prints is written.
@@ -99,11 +81,8 @@ fn serve<R: Read, W: Write>(reader: &mut R, writer: &mut W) -> Result<(), Failur
     ensures unread { IsErrOf result Failure.Reading → Keeps (W.contents writer.old) (W.contents writer.new) }
 {
     let mut buffer = [0u8; BUFFER];
-    match read_all(reader, &mut buffer) {
-        Input::Whole(count) => answer(writer, &buffer[..count]),
-        Input::Above(count) => answer(writer, &buffer[..count]),
-        Input::Failed => Err(Failure::Reading),
-    }
+    let count = read_all(reader, &mut buffer)?;
+    answer(writer, &buffer[..count])
 }
 
 fn complain(rt: &impl Eprint, failure: Failure) -> ExitCode {

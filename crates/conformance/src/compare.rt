@@ -5,7 +5,6 @@ use reference::{Book, RefAnswer, RefRow, RefSeen};
 use reservation::Register;
 use rules::tables::{default_setup, machine_rate, transfer_rate, transfer_time};
 use rules::{Answer, Holder, Row, Seen};
-use workload::draws::plus;
 
 pub fn same_answer(ours: Answer, theirs: RefAnswer) -> bool {
     if ours.number != theirs.number {
@@ -117,7 +116,7 @@ pub fn states_apart(ours: Register, theirs: Book) -> u64 {
     let clock = one_if(ours.clock() != theirs.clock);
     let total = one_if(ours.total() != theirs.total);
     let count = one_if(ours.count() != theirs.count);
-    plus(plus(clock, total), count)
+    clock.saturating_add(total).saturating_add(count)
 }
 
 // The rows, up to the larger count.
@@ -127,7 +126,7 @@ pub fn rows_apart(ours: Register, theirs: Book, count: usize) -> u64 {
     for i in 0..256 {
         if i < count {
             if !same_row(rows[i], theirs.rows[i]) {
-                apart = plus(apart, 1);
+                apart = apart.saturating_add(1);
             }
         }
     }
@@ -142,7 +141,7 @@ pub fn rates_apart(theirs: Book) -> u64 {
     for machine in 1u64..5 {
         let rate = machine_rate(setup, machine);
         let at = (machine - 1) as usize;
-        apart = plus(apart, one_if(rate != theirs.rates[at]));
+        apart = apart.saturating_add(one_if(rate != theirs.rates[at]));
     }
     apart
 }
@@ -151,7 +150,7 @@ pub fn rates_apart(theirs: Book) -> u64 {
 pub fn links_apart(theirs: Book) -> u64 {
     let mut apart: u64 = 0;
     for source in 1u64..5 {
-        apart = plus(apart, links_from_apart(theirs, source));
+        apart = apart.saturating_add(links_from_apart(theirs, source));
     }
     apart
 }
@@ -165,8 +164,8 @@ fn links_from_apart(theirs: Book, source: u64) -> u64
         let at = (source * 4 + target - 5) as usize;
         let time = transfer_time(setup, source, target);
         let rate = transfer_rate(setup, source, target);
-        apart = plus(apart, one_if(time != theirs.times[at]));
-        apart = plus(apart, one_if(rate != theirs.linkrates[at]));
+        apart = apart.saturating_add(one_if(time != theirs.times[at]));
+        apart = apart.saturating_add(one_if(rate != theirs.linkrates[at]));
     }
     apart
 }

@@ -18,10 +18,9 @@ use lists::{all_lists, with_wrong_link};
 use reference::fresh;
 use report::{print_counts, print_line};
 use std::process::ExitCode;
-use workload::draws::plus;
 
 fn tables(out: &mut Console, counts: Counts) -> Counts {
-    let apart = plus(rates_apart(fresh()), links_apart(fresh()));
+    let apart = rates_apart(fresh()).saturating_add(links_apart(fresh()));
     print_line(out, b"differences of the tables: ", apart);
     differing(counts, apart)
 }

@@ -6,26 +6,18 @@ use crate::printing::{heading, print_state};
 use builder::{alone, numbered};
 use console::Console;
 use reservation::Register;
-use rules::Kind;
-use workload::draws::GREATEST;
+use rules::{Job, Kind};
 use workload::examples::{job_a, job_h};
 use workload::limits::{easy, largest};
-use workload::refused::{Batch, job_of_batch};
+use workload::refused;
 
-// The jobs of a batch from the place `first` up to `end` and not `end`.
-fn submit_each(
-    out: &mut Console,
-    register: Register,
-    batch: Batch,
-    first: u64,
-    end: u64,
-) -> Register
+fn submit_each(out: &mut Console, register: Register, jobs: &[Job]) -> Register
     requires { Valid register }
     ensures { Valid result }
 {
     let mut left = register;
-    for place in first..end {
-        left = submit(out, left, job_of_batch(batch, place));
+    for job in jobs {
+        left = submit(out, left, *job);
     }
     left
 }
@@ -36,7 +28,7 @@ pub fn by_counts(out: &mut Console, register: Register) -> Register
     ensures { Valid result }
 {
     heading(out, b"numbers and counts");
-    let mut left = submit_each(out, register, Batch::Counts, 0, 11);
+    let mut left = submit_each(out, register, &refused::by_counts());
     print_state(out, left);
     left = withdraw(out, left, 7);
     print_state(out, left);
@@ -52,7 +44,7 @@ pub fn by_figures(out: &mut Console, register: Register) -> Register
     let mut left = submit(out, register, largest(1_000_000));
     print_state(out, left);
     left = withdraw(out, left, 65_535);
-    left = submit_each(out, left, Batch::Figures, 0, 5);
+    left = submit_each(out, left, &refused::by_figures());
     print_state(out, left);
     left
 }
@@ -63,7 +55,7 @@ pub fn by_figures_of_tasks(out: &mut Console, register: Register) -> Register
     ensures { Valid result }
 {
     heading(out, b"figures of tasks");
-    let left = submit_each(out, register, Batch::LastTask, 0, 10);
+    let left = submit_each(out, register, &refused::by_last_task());
     print_state(out, left);
     left
 }
@@ -74,7 +66,7 @@ pub fn by_messages(out: &mut Console, register: Register) -> Register
     ensures { Valid result }
 {
     heading(out, b"messages");
-    let left = submit_each(out, register, Batch::Messages, 0, 11);
+    let left = submit_each(out, register, &refused::by_messages());
     print_state(out, left);
     left
 }
@@ -85,7 +77,7 @@ pub fn by_order(out: &mut Console, register: Register) -> Register
     ensures { Valid result }
 {
     heading(out, b"order");
-    let left = submit_each(out, register, Batch::Order, 0, 10);
+    let left = submit_each(out, register, &refused::by_order());
     print_state(out, left);
     left
 }
@@ -96,9 +88,9 @@ pub fn by_turns(out: &mut Console, register: Register) -> Register
     ensures { Valid result }
 {
     heading(out, b"turns");
-    let mut left = submit_each(out, register, Batch::Turns, 0, 6);
+    let mut left = submit_each(out, register, &refused::by_turns());
     left = withdraw(out, left, 11);
-    left = submit_each(out, left, Batch::Turns, 6, 7);
+    left = submit(out, left, refused::pair_with_message());
     print_state(out, left);
     left
 }
@@ -110,7 +102,7 @@ pub fn of_withdrawals(out: &mut Console, register: Register) -> Register
 {
     heading(out, b"withdrawals");
     let mut left = withdraw(out, register, 0);
-    left = withdraw(out, left, GREATEST);
+    left = withdraw(out, left, u64::MAX);
     left = withdraw(out, left, 12);
     left = withdraw(out, left, 10);
     left = withdraw(out, left, 7);
@@ -141,14 +133,14 @@ pub fn looks(out: &mut Console, register: Register)
     heading(out, b"looks");
     look(out, register, 0, 4);
     look(out, register, 5, 4);
-    look(out, register, GREATEST, GREATEST);
+    look(out, register, u64::MAX, u64::MAX);
     look(out, register, 1, 4);
     look(out, register, 1, 10);
     look(out, register, 2, 3);
     look(out, register, 2, 12);
     look(out, register, 3, 4);
     look(out, register, 4, 4);
-    look(out, register, 4, GREATEST);
+    look(out, register, 4, u64::MAX);
 }
 
 // The clock is moved by the call of any kind.
@@ -168,7 +160,7 @@ pub fn of_advances(out: &mut Console, register: Register) -> Register
     let mut left = move_to(out, register, 3);
     left = move_to(out, left, 4);
     left = move_to(out, left, 1_000_000_001);
-    left = move_to(out, left, GREATEST);
+    left = move_to(out, left, u64::MAX);
     left = apply(out, left, Kind::Submit, job_a(10));
     left = apply(out, left, Kind::Withdraw(7), numbered(0));
     left = move_to(out, left, 15);

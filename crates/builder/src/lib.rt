@@ -1,87 +1,94 @@
 // Jobs from their parts, for tests. Entries past a job's counts are blank.
 #![tactic(auto)]
 
-ghost use Rattle.std.specs.Prelude.{◌≡◌};
+ghost use Rattle.std.specs.Prelude.{◌≡◌, min, length};
 
 use rules::{DEFAULT_MACHINES, Job, MACHINES, MESSAGES, Message, TASKS, Task};
+use std::array;
 
 // Run times on the machines of the default table, and a figure for each place past them.
 pub fn over_machines(runs: [u64; DEFAULT_MACHINES], past: u64) -> [u64; MACHINES] {
-    [runs[0], runs[1], runs[2], runs[3], past, past, past, past]
+    array::from_fn(|i| runs.get(i).copied().unwrap_or(past))
 }
 
 pub fn task(deadline: u64, dispatch: u64, runs: [u64; DEFAULT_MACHINES]) -> Task
-    ensures { (result.deadline ≡ deadline) × (result.dispatch ≡ dispatch) }
+    ensures deadline { result.deadline ≡ deadline }
+    ensures dispatch { result.dispatch ≡ dispatch }
 {
     Task {
-        deadline: deadline,
-        dispatch: dispatch,
+        deadline,
+        dispatch,
         runs: over_machines(runs, 0),
     }
 }
 
 pub fn message(sender: u64, receiver: u64, volume: u64) -> Message
-    ensures { (result.sender ≡ sender) × ((result.receiver ≡ receiver) × (result.volume ≡ volume)) }
+    ensures { result ≡ record { sender = sender; receiver = receiver; volume = volume } }
 {
     Message {
-        sender: sender,
-        receiver: receiver,
-        volume: volume,
+        sender,
+        receiver,
+        volume,
     }
 }
 
-// A job of no task and no message, to which they are added.
+// The items from the start on, and blanks past them.
+fn padded<T: Copy + Default, const N: usize>(items: &[T]) -> [T; N] {
+    array::from_fn(|i| items.get(i).copied().unwrap_or_default())
+}
+
+// A job of these tasks and messages, or of as many of them as it has room for.
+pub fn job(number: u64, tasks: &[Task], messages: &[Message]) -> Job
+    ensures number { result.number ≡ number }
+    ensures tasks { result.taskcount ≡ min (length tasks.now) TASKS }
+    ensures messages { result.messagecount ≡ min (length messages.now) MESSAGES }
+{
+    Job {
+        number,
+        scheduling: 0,
+        taskcount: tasks.len().min(TASKS) as u64,
+        tasks: padded(tasks),
+        messagecount: messages.len().min(MESSAGES) as u64,
+        messages: padded(messages),
+    }
+}
+
+// A job of no task and no message.
 pub fn numbered(number: u64) -> Job
     ensures { result.number ≡ number }
 {
     Job {
-        number: number,
-        scheduling: 0,
-        taskcount: 0,
-        tasks: [task(0, 0, [0; DEFAULT_MACHINES]); TASKS],
-        messagecount: 0,
-        messages: [message(0, 0, 0); MESSAGES],
+        number,
+        ..Job::default()
     }
-}
-
-// The job with one task more, where it has room.
-pub fn add_task(job: Job, its: Task) -> Job
-    ensures { result.number ≡ job.number }
-{
-    let mut more = job;
-    let at = job.taskcount as usize;
-    if at < TASKS {
-        more.tasks[at] = its;
-        more.taskcount += 1;
-    }
-    more
 }
 
 // The job with one message more, where it has room.
-pub fn add_message(job: Job, its: Message) -> Job
+pub fn with_message(mut job: Job, message: Message) -> Job
     ensures { result.number ≡ job.number }
 {
-    let mut more = job;
     let at = job.messagecount as usize;
     if at < MESSAGES {
-        more.messages[at] = its;
-        more.messagecount += 1;
+        job.messages[at] = message;
+        job.messagecount += 1;
     }
-    more
+    job
 }
 
 // One task, which takes one row.
-pub fn alone(number: u64, its: Task) -> Job
+pub fn alone(number: u64, task: Task) -> Job
     ensures { result.number ≡ number }
 {
-    add_task(numbered(number), its)
+    job(number, &[task], &[])
 }
 
 // The same after so much scheduling time.
-pub fn alone_after(number: u64, scheduling: u64, its: Task) -> Job
-    ensures { (result.number ≡ number) × (result.scheduling ≡ scheduling) }
+pub fn alone_after(number: u64, scheduling: u64, task: Task) -> Job
+    ensures number { result.number ≡ number }
+    ensures scheduling { result.scheduling ≡ scheduling }
 {
-    let mut late = alone(number, its);
-    late.scheduling = scheduling;
-    late
+    Job {
+        scheduling,
+        ..alone(number, task)
+    }
 }

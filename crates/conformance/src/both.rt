@@ -8,14 +8,14 @@ use reference::{Admission, Book, RefRow, Refusal};
 use reservation::{Register, Reply};
 use rules::{Job, Seen};
 use tally::{Ratio, Tally, counted_of, guarantee_ratio};
-use workload::draws::plus;
+use workload::draws::Draws;
 
 #[derive(Clone, Copy)]
 pub struct Both {
     pub register: Register,
     pub book: Book,
     pub counts: Counts,
-    pub seed: u64,
+    pub draws: Draws,
     // The submissions that arrived and those admitted, counted on each side.
     pub tally: Tally,
     pub arrived: u64,
@@ -26,7 +26,7 @@ pub struct Both {
 }
 
 // A fresh register beside this book.
-pub fn opened(book: Book, counts: Counts, seed: u64) -> Both
+pub fn opened(book: Book, counts: Counts, draws: Draws) -> Both
     ensures { Valid result.register }
 {
     let register = Register::new();
@@ -34,7 +34,7 @@ pub fn opened(book: Book, counts: Counts, seed: u64) -> Both
         register: register,
         book: book,
         counts: counts,
-        seed: seed,
+        draws,
         tally: Tally {
             arrived: 0,
             admitted: 0,
@@ -55,7 +55,7 @@ fn held_apart(counts: Counts, register: Register, book: &Book) -> Counts
 {
     let count = register.count().max(book.rows().len());
     let rows = rows_apart(register, book, count);
-    let apart = plus(states_apart(register, book), rows);
+    let apart = states_apart(register, book).saturating_add(rows);
     holding(differing(counts, apart), count as u64)
 }
 
@@ -81,7 +81,7 @@ fn settled(both: Both, reply: Reply, book: Book, theirs: Result<Admission, Refus
         register: register,
         book: book,
         counts: more,
-        seed: both.seed,
+        draws: both.draws,
         tally: tally,
         arrived: both.arrived,
         admitted: both.admitted,
@@ -98,9 +98,9 @@ fn tallied(both: Both) -> Both
     let mut more = both;
     let tally = both.tally;
     more.tally = counted_of(tally, both.ours == 0);
-    more.arrived = plus(both.arrived, 1);
+    more.arrived = both.arrived.saturating_add(1);
     if both.theirs == 0 {
-        more.admitted = plus(both.admitted, 1);
+        more.admitted = both.admitted.saturating_add(1);
     }
     more
 }

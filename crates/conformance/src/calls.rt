@@ -5,7 +5,7 @@ use crate::both::{Both, advance, look, submit, withdraw};
 use reference::{Book, RefHolder, RefRow};
 use reservation::Register;
 use workload::drawn::made_up_job;
-use workload::draws::{GREATEST, draw, minus, next_seed, plus, rarely};
+use workload::draws::Draws;
 use workload::shapes::Shape;
 
 // The next call of a list.
@@ -13,89 +13,88 @@ pub fn next_call(both: Both, shape: Shape) -> Both
     requires { Valid both.register }
     ensures { Valid result.register }
 {
-    let seed = next_seed(both.seed);
-    let mut next = both;
-    next.seed = seed;
-    if draw(seed, 10, 16) < shape.submissions {
-        return submit(next, made_up_job(shape, next.book.clock(), seed));
+    let draws = both.draws.next();
+    let next = Both { draws, ..both };
+    if draws.draw(10, 16) < shape.submissions {
+        return submit(next, made_up_job(&shape, next.book.clock(), draws));
     }
-    other_call(next, shape, seed)
+    other_call(next, shape, draws)
 }
 
-fn other_call(both: Both, shape: Shape, seed: u64) -> Both
+fn other_call(both: Both, shape: Shape, draws: Draws) -> Both
     requires { Valid both.register }
     ensures { Valid result.register }
 {
     let book = &both.book;
-    let kind = draw(seed, 11, 16);
+    let kind = draws.draw(11, 16);
     if kind < shape.withdrawals {
-        return withdraw(both, number_of(book, shape, seed));
+        return withdraw(both, number_of(book, shape, draws));
     }
-    if kind < plus(shape.withdrawals, shape.advances) {
-        return advance(both, tick_of(book, shape, seed));
+    if kind < shape.withdrawals.saturating_add(shape.advances) {
+        return advance(both, tick_of(book, shape, draws));
     }
-    let view = view_of(book, shape, seed);
+    let view = view_of(book, shape, draws);
     look(both, view.machine, view.tick)
 }
 
 // One of the rows held, if there is one.
-fn some_row(book: &Book, seed: u64, key: u64) -> Option<RefRow> {
+fn some_row(book: &Book, draws: Draws, key: u64) -> Option<RefRow> {
     let rows = book.rows();
-    rows.get(draw(seed, key, rows.len() as u64) as usize)
+    rows.get(draws.draw(key, rows.len() as u64) as usize)
         .copied()
 }
 
 // The number of a held job, any number, or one that no job can have.
-fn number_of(book: &Book, shape: Shape, seed: u64) -> u64 {
-    let how = draw(seed, 20, 16);
+fn number_of(book: &Book, shape: Shape, draws: Draws) -> u64 {
+    let how = draws.draw(20, 16);
     if how < 10 {
-        return some_row(book, seed, 21).map_or(0, |row| row.job);
+        return some_row(book, draws, 21).map_or(0, |row| row.job);
     }
     match how {
         10 => 0,
         11 => 65_536,
-        12 => GREATEST,
-        _ => 1 + draw(seed, 22, shape.numbers),
+        12 => u64::MAX,
+        _ => 1 + draws.draw(22, shape.numbers),
     }
 }
 
 // Where the clock is moved to.
-fn tick_of(book: &Book, shape: Shape, seed: u64) -> u64 {
-    let how = draw(seed, 30, 16);
+fn tick_of(book: &Book, shape: Shape, draws: Draws) -> u64 {
+    let how = draws.draw(30, 16);
     let clock = book.clock();
     match how {
-        0 => minus(clock, 1 + draw(seed, 31, 5)),
+        0 => clock.saturating_sub(1 + draws.draw(31, 5)),
         1 => 0,
         2 => clock,
-        3 => refused_tick(seed),
-        4 | 5 | 6 | 7 | 8 => tick_of_job(book, shape, seed),
-        _ => plus(clock, 1 + draw(seed, 32, shape.step)),
+        3 => refused_tick(draws),
+        4 | 5 | 6 | 7 | 8 => tick_of_job(book, shape, draws),
+        _ => clock.saturating_add(1 + draws.draw(32, shape.step)),
     }
 }
 
 // Above the horizon.
-fn refused_tick(seed: u64) -> u64 {
-    let how = draw(seed, 33, 3);
+fn refused_tick(draws: Draws) -> u64 {
+    let how = draws.draw(33, 3);
     match how {
         0 => Register::HORIZON + 1,
-        1 => GREATEST,
-        _ => Register::HORIZON + 1 + draw(seed, 34, 1_000_000),
+        1 => u64::MAX,
+        _ => Register::HORIZON + 1 + draws.draw(34, 1_000_000),
     }
 }
 
 // The first start or the last finish of a job, a tick before it, or a row's own.
-fn tick_of_job(book: &Book, shape: Shape, seed: u64) -> u64 {
+fn tick_of_job(book: &Book, shape: Shape, draws: Draws) -> u64 {
     if !shape.jumps {
-        return plus(book.clock(), 1);
+        return book.clock().saturating_add(1);
     }
-    let row = some_row(book, seed, 35);
+    let row = some_row(book, draws, 35);
     let job = row.map_or(0, |row| row.job);
-    let how = draw(seed, 36, 6);
+    let how = draws.draw(36, 6);
     match how {
         0 => first_start(book, job),
-        1 => minus(first_start(book, job), 1),
+        1 => first_start(book, job).saturating_sub(1),
         2 => last_finish(book, job),
-        3 => minus(last_finish(book, job), 1),
+        3 => last_finish(book, job).saturating_sub(1),
         4 => row.map_or(0, |row| row.start),
         _ => row.map_or(0, |row| row.finish),
     }
@@ -107,7 +106,7 @@ fn first_start(book: &Book, job: u64) -> u64 {
         .filter(|row| row.job == job)
         .map(|row| row.start)
         .min()
-        .unwrap_or(GREATEST)
+        .unwrap_or(u64::MAX)
 }
 
 fn last_finish(book: &Book, job: u64) -> u64 {
@@ -126,22 +125,22 @@ struct View {
     tick: u64,
 }
 
-fn view_of(book: &Book, shape: Shape, seed: u64) -> View {
-    if rarely(seed, 41, 2) {
-        return view_of_row(some_row(book, seed, 40), seed);
+fn view_of(book: &Book, shape: Shape, draws: Draws) -> View {
+    if draws.rarely(41, 2) {
+        return view_of_row(some_row(book, draws, 40), draws);
     }
     View {
-        machine: machine_of(seed),
-        tick: any_tick(book.clock(), shape.slack, seed),
+        machine: machine_of(draws),
+        tick: any_tick(book.clock(), shape.slack, draws),
     }
 }
 
 // The machine of a row, or the sending one of a link; none where no row is held.
-fn view_of_row(row: Option<RefRow>, seed: u64) -> View {
+fn view_of_row(row: Option<RefRow>, draws: Draws) -> View {
     let Some(row) = row else {
         return View {
             machine: 0,
-            tick: tick_beside(0, 0, seed),
+            tick: tick_beside(0, 0, draws),
         };
     };
     let machine = match row.holder {
@@ -150,39 +149,39 @@ fn view_of_row(row: Option<RefRow>, seed: u64) -> View {
     };
     View {
         machine: machine.number(),
-        tick: tick_beside(row.start, row.finish, seed),
+        tick: tick_beside(row.start, row.finish, draws),
     }
 }
 
 // At the ends of a row, and beside them.
-fn tick_beside(start: u64, finish: u64, seed: u64) -> u64 {
-    let how = draw(seed, 42, 5);
+fn tick_beside(start: u64, finish: u64, draws: Draws) -> u64 {
+    let how = draws.draw(42, 5);
     match how {
         0 => start,
-        1 => minus(start, 1),
+        1 => start.saturating_sub(1),
         2 => finish,
-        3 => minus(finish, 1),
-        _ => plus(start, 1),
+        3 => finish.saturating_sub(1),
+        _ => start.saturating_add(1),
     }
 }
 
 // Machines 0 to 5, and others that there are not.
-fn machine_of(seed: u64) -> u64 {
-    let how = draw(seed, 43, 8);
+fn machine_of(draws: Draws) -> u64 {
+    let how = draws.draw(43, 8);
     match how {
-        6 => 6 + draw(seed, 44, 1_000),
-        7 => GREATEST,
+        6 => 6 + draws.draw(44, 1_000),
+        7 => u64::MAX,
         _ => how,
     }
 }
 
-fn any_tick(clock: u64, slack: u64, seed: u64) -> u64 {
-    let how = draw(seed, 45, 8);
+fn any_tick(clock: u64, slack: u64, draws: Draws) -> u64 {
+    let how = draws.draw(45, 8);
     match how {
         0 => 0,
         1 => clock,
-        2 => GREATEST,
-        3 => minus(clock, draw(seed, 46, 20)),
-        _ => plus(clock, draw(seed, 46, slack)),
+        2 => u64::MAX,
+        3 => clock.saturating_sub(draws.draw(46, 20)),
+        _ => clock.saturating_add(draws.draw(46, slack)),
     }
 }

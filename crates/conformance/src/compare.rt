@@ -3,7 +3,6 @@ use reference::{Admission, Book, Link, Machine, RefHolder, RefRow, Refusal, Reso
 use reservation::Register;
 use rules::tables::{default_setup, machine_rate, transfer_rate, transfer_time};
 use rules::{Answer, Holder, Row, Seen};
-use workload::draws::plus;
 
 pub fn same_answer(ours: Answer, theirs: Result<Admission, Refusal>) -> bool {
     let figures = match theirs {
@@ -65,7 +64,7 @@ pub fn states_apart(ours: Register, theirs: &Book) -> u64 {
     let clock = u64::from(ours.clock() != theirs.clock());
     let total = u64::from(ours.total() != theirs.total());
     let count = u64::from(ours.count() != theirs.rows().len());
-    plus(plus(clock, total), count)
+    clock.saturating_add(total).saturating_add(count)
 }
 
 // The rows, up to the larger count.
@@ -84,10 +83,7 @@ pub fn rates_apart(theirs: &Tables) -> u64 {
     let mut apart = u64::from(table.machines != 4);
     for machine in Machine::ALL {
         let rate = machine_rate(setup, machine.number());
-        apart = plus(
-            apart,
-            u64::from(rate != theirs.rate(Resource::Machine(machine))),
-        );
+        apart = apart.saturating_add(u64::from(rate != theirs.rate(Resource::Machine(machine))));
     }
     apart
 }
@@ -96,7 +92,7 @@ pub fn rates_apart(theirs: &Tables) -> u64 {
 pub fn links_apart(theirs: &Tables) -> u64 {
     let mut apart: u64 = 0;
     for from in Machine::ALL {
-        apart = plus(apart, links_from_apart(theirs, from));
+        apart = apart.saturating_add(links_from_apart(theirs, from));
     }
     apart
 }
@@ -108,8 +104,8 @@ fn links_from_apart(theirs: &Tables, from: Machine) -> u64 {
         let link = Link { from, to };
         let time = transfer_time(setup, from.number(), to.number());
         let rate = transfer_rate(setup, from.number(), to.number());
-        apart = plus(apart, u64::from(time != theirs.link_time(link)));
-        apart = plus(apart, u64::from(rate != theirs.rate(Resource::Link(link))));
+        apart = apart.saturating_add(u64::from(time != theirs.link_time(link)));
+        apart = apart.saturating_add(u64::from(rate != theirs.rate(Resource::Link(link))));
     }
     apart
 }

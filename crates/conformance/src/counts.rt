@@ -1,6 +1,4 @@
 // What is counted over all lists.
-use workload::draws::plus;
-
 #[derive(Clone, Copy)]
 pub struct Counts {
     pub calls: u64,
@@ -37,50 +35,50 @@ pub fn nothing() -> Counts {
 pub fn answered(counts: Counts, number: u64) -> Counts {
     let mut more = counts;
     let at = number as usize;
-    more.calls = plus(counts.calls, 1);
+    more.calls = counts.calls.saturating_add(1);
     if at < 14 {
-        more.answers[at] = plus(counts.answers[at], 1);
+        more.answers[at] = counts.answers[at].saturating_add(1);
     } else {
-        more.differences = plus(counts.differences, 1);
+        more.differences = counts.differences.saturating_add(1);
     }
     more
 }
 
 pub fn differing(counts: Counts, differences: u64) -> Counts {
     let mut more = counts;
-    more.differences = plus(counts.differences, differences);
+    more.differences = counts.differences.saturating_add(differences);
     more
 }
 
 // So many rows are held, and each was compared.
 pub fn holding(counts: Counts, rows: u64) -> Counts {
     let mut more = counts;
-    more.rows = plus(counts.rows, rows);
+    more.rows = counts.rows.saturating_add(rows);
     if counts.most < rows {
         more.most = rows;
     }
     if 200 < rows {
-        more.crowded = plus(counts.crowded, 1);
+        more.crowded = counts.crowded.saturating_add(1);
     }
     if rows == 255 {
-        more.almost_full = plus(counts.almost_full, 1);
+        more.almost_full = counts.almost_full.saturating_add(1);
     }
     if rows == 256 {
-        more.full = plus(counts.full, 1);
+        more.full = counts.full.saturating_add(1);
     }
     more
 }
 
 pub fn seen_idle(counts: Counts) -> Counts {
     let mut more = counts;
-    more.calls = plus(counts.calls, 1);
-    more.idle = plus(counts.idle, 1);
+    more.calls = counts.calls.saturating_add(1);
+    more.idle = counts.idle.saturating_add(1);
     more
 }
 
 pub fn seen_booked(counts: Counts) -> Counts {
     let mut more = counts;
-    more.calls = plus(counts.calls, 1);
-    more.booked = plus(counts.booked, 1);
+    more.calls = counts.calls.saturating_add(1);
+    more.booked = counts.booked.saturating_add(1);
     more
 }

@@ -11,6 +11,7 @@ use console::Console;
 use reference::{Book, Refusal};
 use rules::Job;
 use tally::Tally;
+use workload::draws::Draws;
 use workload::examples::one_row;
 
 // A row of the largest cost.
@@ -49,7 +50,7 @@ fn one_more(out: &mut Console, both: Both, number: u64) -> Both
 
 // With 255 rows a job of one row fits, with 256 it is refused 8.
 pub fn row_limit(out: &mut Console, counts: Counts) -> Counts {
-    let almost_full = filled(opened(Book::new(), counts, 1), 256, false);
+    let almost_full = filled(opened(Book::new(), counts, Draws::new(1)), 256, false);
     let full = one_more(out, almost_full, 256);
     let beyond = one_more(out, full, 257);
     beyond.counts
@@ -64,7 +65,7 @@ fn print_total(out: &mut Console, both: Both) {
 
 // A full register of the largest costs; then a job is withdrawn, and a hundred end.
 pub fn largest_total(out: &mut Console, counts: Counts) -> Counts {
-    let full = filled(opened(Book::new(), counts, 1), 257, true);
+    let full = filled(opened(Book::new(), counts, Draws::new(1)), 257, true);
     print_total(out, full);
     let less = withdraw(full, 200);
     print_total(out, less);
@@ -95,7 +96,7 @@ fn ratio(out: &mut Console, counts: Counts, arrived: u32, admitted: u32) -> Coun
 
 // Two of three submissions are admitted.
 fn ratio_of_calls(out: &mut Console, counts: Counts) -> Counts {
-    let first = submit(opened(Book::new(), counts, 1), one_row(1));
+    let first = submit(opened(Book::new(), counts, Draws::new(1)), one_row(1));
     let again = submit(first, one_row(1));
     let second = submit(again, one_row(2));
     let tally = second.tally;

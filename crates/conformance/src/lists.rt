@@ -8,10 +8,10 @@ use crate::report::print_list;
 use console::Console;
 use reference::{Book, Link, Machine, Tables};
 use reservation::Register;
-use workload::draws::{next_seed, plus};
+use workload::draws::Draws;
 use workload::shapes::{
-    Shape, chains, crowded, crowded_graphs, dense, forks, joins, large_figures, lattices,
-    out_of_range, random_graphs, ties, trees,
+    CHAINS, CROWDED, CROWDED_GRAPHS, DENSE, FORKS, JOINS, LARGE_FIGURES, LATTICES, OUT_OF_RANGE,
+    RANDOM_GRAPHS, Shape, TIES, TREES,
 };
 
 // So many calls from one seed, each handed what the last one left.
@@ -27,8 +27,15 @@ fn called(both: Both, shape: Shape, calls: u64) -> Both
 }
 
 // One list from a tick on; at its end the ratio is compared, and the clock is moved to the horizon.
-fn one_list(book: Book, counts: Counts, shape: Shape, calls: u64, tick: u64, seed: u64) -> Counts {
-    let begun = advance(opened(book, counts, seed), tick);
+fn one_list(
+    book: Book,
+    counts: Counts,
+    shape: Shape,
+    calls: u64,
+    tick: u64,
+    draws: Draws,
+) -> Counts {
+    let begun = advance(opened(book, counts, draws), tick);
     let left = called(begun, shape, calls);
     let emptied = advance(left, Register::HORIZON);
     let tally = left.tally;
@@ -47,34 +54,34 @@ fn several(
     tick: u64,
 ) -> Counts {
     let mut all = counts;
-    let mut seed = plus(20_240_229, counts.calls);
+    let mut draws = Draws::new(counts.calls.saturating_add(20_240_229));
     for i in 0..lists {
-        seed = next_seed(seed);
-        all = one_list(Book::new(), all, shape, calls, tick, seed);
+        draws = draws.next();
+        all = one_list(Book::new(), all, shape, calls, tick, draws);
     }
     print_list(out, name, counts, all);
     all
 }
 
 fn by_graphs(out: &mut Console, counts: Counts) -> Counts {
-    let mut all = several(out, b"chains", counts, chains(), 4, 900, 0);
-    all = several(out, b"forks", all, forks(), 4, 900, 0);
-    all = several(out, b"joins", all, joins(), 4, 900, 0);
-    all = several(out, b"trees", all, trees(), 4, 800, 0);
-    all = several(out, b"lattices", all, lattices(), 5, 700, 0);
-    several(out, b"random graphs", all, random_graphs(), 5, 700, 0)
+    let mut all = several(out, b"chains", counts, CHAINS, 4, 900, 0);
+    all = several(out, b"forks", all, FORKS, 4, 900, 0);
+    all = several(out, b"joins", all, JOINS, 4, 900, 0);
+    all = several(out, b"trees", all, TREES, 4, 800, 0);
+    all = several(out, b"lattices", all, LATTICES, 5, 700, 0);
+    several(out, b"random graphs", all, RANDOM_GRAPHS, 5, 700, 0)
 }
 
 pub fn all_lists(out: &mut Console, counts: Counts) -> Counts {
-    let mut all = several(out, b"dense", counts, dense(), 6, 1_500, 0);
+    let mut all = several(out, b"dense", counts, DENSE, 6, 1_500, 0);
     all = by_graphs(out, all);
-    all = several(out, b"ties", all, ties(), 5, 1_000, 0);
-    all = several(out, b"out of range", all, out_of_range(), 5, 1_200, 0);
-    all = several(out, b"large figures", all, large_figures(), 4, 600, 0);
-    all = several(out, b"near the horizon", all, dense(), 3, 800, 999_999_000);
-    all = several(out, b"at the horizon", all, dense(), 1, 400, 1_000_000_000);
-    all = several(out, b"crowded", all, crowded(), 3, 2_500, 0);
-    several(out, b"crowded graphs", all, crowded_graphs(), 4, 1_200, 0)
+    all = several(out, b"ties", all, TIES, 5, 1_000, 0);
+    all = several(out, b"out of range", all, OUT_OF_RANGE, 5, 1_200, 0);
+    all = several(out, b"large figures", all, LARGE_FIGURES, 4, 600, 0);
+    all = several(out, b"near the horizon", all, DENSE, 3, 800, 999_999_000);
+    all = several(out, b"at the horizon", all, DENSE, 1, 400, 1_000_000_000);
+    all = several(out, b"crowded", all, CROWDED, 3, 2_500, 0);
+    several(out, b"crowded graphs", all, CROWDED_GRAPHS, 4, 1_200, 0)
 }
 
 // One list with a wrong time for the link from machine 2 to machine 3.
@@ -85,5 +92,12 @@ pub fn with_wrong_link(counts: Counts) -> Counts {
         to: Machine::Three,
     };
     tables.set_link_time(link, 2);
-    one_list(Book::with_tables(tables), counts, trees(), 500, 0, 77)
+    one_list(
+        Book::with_tables(tables),
+        counts,
+        TREES,
+        500,
+        0,
+        Draws::new(77),
+    )
 }

@@ -18,11 +18,10 @@ use lists::{all_lists, with_wrong_link};
 use reference::Tables;
 use report::{print_counts, print_line};
 use std::process::ExitCode;
-use workload::draws::plus;
 
 fn tables(out: &mut Console, counts: Counts) -> Counts {
     let theirs = Tables::new();
-    let apart = plus(rates_apart(&theirs), links_apart(&theirs));
+    let apart = rates_apart(&theirs).saturating_add(links_apart(&theirs));
     print_line(out, b"differences of the tables: ", apart);
     differing(counts, apart)
 }

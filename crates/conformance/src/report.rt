@@ -1,7 +1,6 @@
 // What is printed.
 use crate::counts::Counts;
 use console::Console;
-use workload::draws::minus;
 
 pub fn print_figure(out: &mut Console, text: &[u8], n: u64) {
     out.write(text);
@@ -15,9 +14,9 @@ pub fn print_line(out: &mut Console, text: &[u8], n: u64) {
 
 // What the lists of one shape added.
 pub fn print_list(out: &mut Console, name: &[u8], before: Counts, after: Counts) {
-    let calls = minus(after.calls, before.calls);
-    let accepted = minus(after.answers[0], before.answers[0]);
-    let differences = minus(after.differences, before.differences);
+    let calls = after.calls.saturating_sub(before.calls);
+    let accepted = after.answers[0].saturating_sub(before.answers[0]);
+    let differences = after.differences.saturating_sub(before.differences);
     out.write(name);
     out.println(format_args!(": calls={calls} accepted={accepted} differences={differences}"));
 }

@@ -11,7 +11,7 @@ use std::process::ExitCode;
 #[derive(Drop)]
 pub struct Console {
     to: Stdout,
-    // Whether something could not be written.
+    // Whether something could not be written. The stream stays in use then, so this is a flag and no `Result` round it.
     pub failed: bool,
 }
 
@@ -25,26 +25,20 @@ impl Console {
     pub fn print<D: Display + Drop>(&mut self, text: D)
         ensures { IsTrue self.old.failed → IsTrue self.new.failed }
     {
-        if self.to.print(text).is_err() {
-            self.failed = true;
-        }
+        self.failed |= self.to.print(text).is_err();
     }
 
     pub fn println<D: Display + Drop>(&mut self, text: D)
         ensures { IsTrue self.old.failed → IsTrue self.new.failed }
     {
-        if self.to.println(text).is_err() {
-            self.failed = true;
-        }
+        self.failed |= self.to.println(text).is_err();
     }
 
     // Bytes as they are.
     pub fn write(&mut self, bytes: &[u8])
         ensures { IsTrue self.old.failed → IsTrue self.new.failed }
     {
-        if self.to.write_all(bytes).is_err() {
-            self.failed = true;
-        }
+        self.failed |= self.to.write_all(bytes).is_err();
     }
 
     // What the program ends with: a failure if anything was not written.

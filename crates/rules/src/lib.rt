@@ -27,7 +27,7 @@ pub const LAST_JOB: u64 = 65_535;
 pub const HORIZON: u64 = 1_000_000_000;
 
 // A task of a job. The deadline is a tick of the clock; a run time of 0 says that the machine cannot run it.
-#[derive(Clone, Copy)]
+#[derive(Clone, Copy, PartialEq, Eq, Default)]
 pub struct Task {
     pub deadline: u64,
     pub dispatch: u64,
@@ -35,7 +35,7 @@ pub struct Task {
 }
 
 // A message from one task of a job to another.
-#[derive(Clone, Copy)]
+#[derive(Clone, Copy, PartialEq, Eq, Default)]
 pub struct Message {
     pub sender: u64,
     pub receiver: u64,
@@ -43,7 +43,7 @@ pub struct Message {
 }
 
 // A job as submitted. Entries past the counts are no part of it.
-#[derive(Clone, Copy)]
+#[derive(Clone, Copy, PartialEq, Eq, Default)]
 pub struct Job {
     pub number: u64,
     pub scheduling: u64,
@@ -54,7 +54,7 @@ pub struct Job {
 }
 
 // What holds a row: a task on a machine, or a message on the link from one machine to another.
-#[derive(Clone, Copy)]
+#[derive(Clone, Copy, PartialEq, Eq)]
 pub enum Holder {
     TaskOn {
         machine: u8,
@@ -69,7 +69,7 @@ pub enum Holder {
 }
 
 // A row: one booking. Its span holds its start and not its finish. The fields are as narrow as their ranges, since a register goes by value.
-#[derive(Clone, Copy)]
+#[derive(Clone, Copy, PartialEq, Eq)]
 pub struct Row {
     pub holder: Holder,
     pub job: u16,
@@ -79,7 +79,7 @@ pub struct Row {
 }
 
 // The kind of a call, with its number or tick. A submission's job stands beside it.
-#[derive(Clone, Copy)]
+#[derive(Clone, Copy, PartialEq, Eq)]
 pub enum Kind {
     Submit,
     Withdraw(u64),
@@ -87,7 +87,7 @@ pub enum Kind {
 }
 
 // The answer to a call: number 0 or that of a refusal, the task that a refusal names, and the cost and count of new rows.
-#[derive(Clone, Copy)]
+#[derive(Clone, Copy, PartialEq, Eq)]
 pub struct Answer {
     pub number: u64,
     pub task: u64,
@@ -96,7 +96,7 @@ pub struct Answer {
 }
 
 // What a look finds on a machine at a tick.
-#[derive(Clone, Copy)]
+#[derive(Clone, Copy, PartialEq, Eq)]
 pub enum Seen {
     Idle,
     Booked(Row),
@@ -104,7 +104,7 @@ pub enum Seen {
 }
 
 // The machines: failure rates, and for each link its time per unit of volume and its failure rate, a row for each sending machine.
-#[derive(Clone, Copy)]
+#[derive(Clone, Copy, PartialEq, Eq)]
 pub struct Table {
     pub machines: u64,
     pub rates: [u64; MACHINES],
@@ -113,7 +113,7 @@ pub struct Table {
 }
 
 // What a register is opened with.
-#[derive(Clone, Copy)]
+#[derive(Clone, Copy, PartialEq, Eq)]
 pub struct Setup {
     pub table: Table,
 }

@@ -4,7 +4,7 @@ ghost use Rattle.rules.specs.Placing.{no_row};
 
 use crate::{Holder, Row};
 
-// What stands in a slot that is not used.
+// What stands in a slot that is not used. No derived default, since a `Holder` has none.
 pub fn blank() -> Row
     ensures { result ≡ no_row }
 {

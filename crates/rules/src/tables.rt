@@ -36,8 +36,7 @@ pub fn machine_rate(s: Setup, machine: u64) -> u64
     ensures { result ≡ rate s machine }
 {
     let at = (machine - 1) as usize;
-    let t = s.table;
-    t.rates[at]
+    s.table.rates[at]
 }
 
 // The figure of link a to b in a column of the table, which stands row by row, a row for each sending machine.
@@ -54,9 +53,7 @@ pub fn transfer_time(s: Setup, a: u64, b: u64) -> u64
     requires { HasLink a b }
     ensures { result ≡ link_time s a b }
 {
-    let t = s.table;
-    let times = t.times;
-    link_figure(times, a, b)
+    link_figure(s.table.times, a, b)
 }
 
 // The failure rate of link a to b.
@@ -64,7 +61,5 @@ pub fn transfer_rate(s: Setup, a: u64, b: u64) -> u64
     requires { HasLink a b }
     ensures { result ≡ link_rate s a b }
 {
-    let t = s.table;
-    let fails = t.fails;
-    link_figure(fails, a, b)
+    link_figure(s.table.fails, a, b)
 }

@@ -1,68 +1,65 @@
 // Drawn figures. Each call has a seed, and each figure of the call a key: the same seed and key give the same figure on every run.
-ghost use Rattle.std.specs.Prelude.{◌<◌, ◌≤◌};
-
-pub const GREATEST: u64 = 18_446_744_073_709_551_615;
+ghost use Rattle.std.specs.Prelude.{◌<◌, ◌^◌};
+ghost use Rattle.workload.specs.declared.draws.TheConstants.{PRIME};
 
 const PRIME: u64 = 2_147_483_647;
 
-// The seed of the next call, by Lehmer's generator.
-pub fn next_seed(seed: u64) -> u64
-    ensures { result < 2147483647 }
-{
-    seed % PRIME * 48_271 % PRIME
+// The figures of one call.
+#[derive(Clone, Copy)]
+pub struct Draws {
+    seed: u64,
+    // What keys are counted from.
+    start: u64,
+    ghost seed_is_reduced: { seed < PRIME },
 }
 
-// The square of a number of 32 bits, and 0 of any other.
-fn square(x: u64) -> u64 {
-    if 4_294_967_295 < x {
-        return 0;
+impl Draws {
+    pub fn new(seed: u64) -> Draws {
+        Draws {
+            seed: seed % PRIME,
+            start: 0,
+        }
     }
-    x * x
-}
 
-fn scrambled(x: u64) -> u64 {
-    (square(x % PRIME) % PRIME + 12_345) % PRIME
-}
-
-// A figure from 0 up to n and not n; 0 where n is 0.
-pub fn draw(seed: u64, key: u64, n: u64) -> u64
-    ensures within { result < 2147483647 }
-    ensures below { 0 < n → result < n }
-{
-    if n == 0 {
-        return 0;
+    // Those of the next call, by Lehmer's generator.
+    pub fn next(self) -> Draws {
+        Draws {
+            seed: self.seed * 48_271 % PRIME,
+            start: 0,
+        }
     }
-    let first = scrambled(seed % PRIME * 16_807 + key % PRIME * 69_621);
-    let second = scrambled(first % PRIME * 40_692 + key % PRIME);
-    second / 16 % n % PRIME
-}
 
-// The figure whose key is so many after another.
-pub fn draw_at(seed: u64, key: u64, after: u64, n: u64) -> u64
-    ensures within { result < 2147483647 }
-    ensures below { 0 < n → result < n }
-{
-    draw(seed, plus(key, after), n)
-}
-
-// One of so many draws.
-pub fn rarely(seed: u64, key: u64, n: u64) -> bool {
-    if n == 0 {
-        return false;
+    // The same with keys counted from this one on.
+    pub fn at(self, key: u64) -> Draws {
+        Draws {
+            seed: self.seed,
+            start: self.start.saturating_add(key),
+        }
     }
-    draw(seed, key, n) == 0
+
+    // A figure from 0 up to `end` and not `end`; 0 where `end` is 0.
+    pub fn draw(self, key: u64, end: u64) -> u64
+        ensures within { result < 2 ^ 27 }
+        ensures below { 0 < end → result < end }
+    {
+        if end == 0 {
+            return 0;
+        }
+        let key = self.start.saturating_add(key) % PRIME;
+        let first = scrambled(self.seed * 16_807 + key * 69_621);
+        let second = scrambled(first * 40_692 + key);
+        second / 16 % end
+    }
+
+    // One of so many draws.
+    pub fn rarely(self, key: u64, count: u64) -> bool {
+        count != 0 && self.draw(key, count) == 0
+    }
 }
 
-// The sum, or the greatest number where it would not fit.
-pub fn plus(a: u64, b: u64) -> u64
-    ensures { (a ≤ result) × (b ≤ result) }
+fn scrambled(x: u64) -> u64
+    ensures { result < PRIME }
 {
-    if b <= GREATEST - a { a + b } else { GREATEST }
-}
-
-// The difference, or 0.
-pub fn minus(a: u64, b: u64) -> u64
-    ensures { result ≤ a }
-{
-    if b <= a { a - b } else { 0 }
+    let rest = x % PRIME;
+    (rest * rest % PRIME + 12_345) % PRIME
 }

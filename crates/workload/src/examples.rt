@@ -1,7 +1,7 @@
 // The jobs of document 01's worked examples, and jobs of one row and of three.
 ghost use Rattle.std.specs.Prelude.{◌≡◌};
 
-use builder::{add_message, add_task, alone, message, task};
+use builder::{alone, job, message, task};
 use rules::Job;
 
 // A to D, by their deadline.
@@ -15,18 +15,18 @@ pub fn job_e() -> Job {
 
 // H to J, by their second deadline and their volume.
 pub fn job_h(deadline: u64, volume: u64) -> Job {
-    let first = alone(7, task(20, 1, [4, 0, 0, 0]));
-    let both = add_task(first, task(deadline, 1, [0, 5, 0, 0]));
-    add_message(both, message(1, 2, volume))
+    let tasks = [task(20, 1, [4, 0, 0, 0]), task(deadline, 1, [0, 5, 0, 0])];
+    job(7, &tasks, &[message(1, 2, volume)])
 }
 
 // K, by its number.
 pub fn job_k(number: u64) -> Job {
-    let first = alone(number, task(10, 0, [4, 0, 0, 0]));
-    let second = add_task(first, task(20, 0, [2, 0, 0, 0]));
-    let third = add_task(second, task(30, 0, [0, 5, 0, 0]));
-    let one = add_message(third, message(1, 3, 2));
-    add_message(one, message(2, 3, 2))
+    let tasks = [
+        task(10, 0, [4, 0, 0, 0]),
+        task(20, 0, [2, 0, 0, 0]),
+        task(30, 0, [0, 5, 0, 0]),
+    ];
+    job(number, &tasks, &[message(1, 3, 2), message(2, 3, 2)])
 }
 
 // One row of cost 20: on machine 1, 2 or 3, whichever is free first.
@@ -40,7 +40,9 @@ pub fn one_row(number: u64) -> Job
 pub fn three_rows(number: u64) -> Job
     ensures { result.number ≡ number }
 {
-    let first = alone(number, task(1_000_000, 1, [0, 7, 0, 0]));
-    let both = add_task(first, task(1_000_000, 1, [0, 0, 3, 0]));
-    add_message(both, message(1, 2, 4))
+    let tasks = [
+        task(1_000_000, 1, [0, 7, 0, 0]),
+        task(1_000_000, 1, [0, 0, 3, 0]),
+    ];
+    job(number, &tasks, &[message(1, 2, 4)])
 }

@@ -1,7 +1,7 @@
 // What the jobs and the calls of a list are drawn from.
 
 // Which tasks of a job send to which.
-#[derive(Clone, Copy)]
+#[derive(Clone, Copy, PartialEq, Eq)]
 pub enum Graph {
     Independent,
     Chain,
@@ -10,12 +10,12 @@ pub enum Graph {
     Tree,
     Lattice,
     Random,
-    Any,
 }
 
 #[derive(Clone, Copy)]
 pub struct Shape {
-    pub graph: Graph,
+    // Without one, each job draws its own.
+    pub graph: Option<Graph>,
     // The most tasks of a job.
     pub tasks: u64,
     // A volume is below this.
@@ -46,162 +46,154 @@ pub struct Shape {
     pub jumps: bool,
 }
 
-fn usual(graph: Graph) -> Shape {
-    Shape {
-        graph: graph,
-        tasks: 6,
-        volume: 6,
-        run: 9,
-        unable: 2,
-        tied: false,
-        lead: 20,
-        lag: 8,
-        slack: 40,
-        dispatch: 3,
-        scheduling: 3,
-        numbers: 90,
-        faults: 40,
-        limits: 0,
-        submissions: 9,
-        withdrawals: 6,
-        advances: 5,
-        step: 12,
-        jumps: true,
-    }
-}
+// What the others vary.
+const USUAL: Shape = Shape {
+    graph: None,
+    tasks: 6,
+    volume: 6,
+    run: 9,
+    unable: 2,
+    tied: false,
+    lead: 20,
+    lag: 8,
+    slack: 40,
+    dispatch: 3,
+    scheduling: 3,
+    numbers: 90,
+    faults: 40,
+    limits: 0,
+    submissions: 9,
+    withdrawals: 6,
+    advances: 5,
+    step: 12,
+    jumps: true,
+};
 
 // Many short jobs with early deadlines, on few machines.
-pub fn dense() -> Shape {
-    let mut its = usual(Graph::Any);
-    its.tasks = 3;
-    its.unable = 5;
-    its.lead = 6;
-    its.lag = 3;
-    its.slack = 16;
-    its.numbers = 80;
-    its.step = 4;
-    its
-}
+pub const DENSE: Shape = Shape {
+    tasks: 3,
+    unable: 5,
+    lead: 6,
+    lag: 3,
+    slack: 16,
+    numbers: 80,
+    step: 4,
+    ..USUAL
+};
 
-pub fn chains() -> Shape {
-    let mut its = usual(Graph::Chain);
-    its.tasks = 12;
-    its
-}
+pub const CHAINS: Shape = Shape {
+    graph: Some(Graph::Chain),
+    tasks: 12,
+    ..USUAL
+};
 
-pub fn forks() -> Shape {
-    let mut its = usual(Graph::Fork);
-    its.tasks = 9;
-    its.lead = 30;
-    its.lag = 4;
-    its
-}
+pub const FORKS: Shape = Shape {
+    graph: Some(Graph::Fork),
+    tasks: 9,
+    lead: 30,
+    lag: 4,
+    ..USUAL
+};
 
-pub fn joins() -> Shape {
-    let mut its = usual(Graph::Join);
-    its.tasks = 9;
-    its.lead = 30;
-    its.lag = 5;
-    its
-}
+pub const JOINS: Shape = Shape {
+    graph: Some(Graph::Join),
+    tasks: 9,
+    lead: 30,
+    lag: 5,
+    ..USUAL
+};
 
-pub fn trees() -> Shape {
-    let mut its = usual(Graph::Tree);
-    its.tasks = 16;
-    its.lead = 40;
-    its.lag = 5;
-    its
-}
+pub const TREES: Shape = Shape {
+    graph: Some(Graph::Tree),
+    tasks: 16,
+    lead: 40,
+    lag: 5,
+    ..USUAL
+};
 
-pub fn lattices() -> Shape {
-    let mut its = usual(Graph::Lattice);
-    its.tasks = 16;
-    its.lead = 40;
-    its.lag = 10;
-    its.numbers = 60;
-    its.step = 30;
-    its
-}
+pub const LATTICES: Shape = Shape {
+    graph: Some(Graph::Lattice),
+    tasks: 16,
+    lead: 40,
+    lag: 10,
+    numbers: 60,
+    step: 30,
+    ..USUAL
+};
 
-pub fn random_graphs() -> Shape {
-    let mut its = usual(Graph::Random);
-    its.tasks = 10;
-    its.lead = 60;
-    its.lag = 10;
-    its.slack = 80;
-    its.volume = 3;
-    its.step = 30;
-    its
-}
+pub const RANDOM_GRAPHS: Shape = Shape {
+    graph: Some(Graph::Random),
+    tasks: 10,
+    volume: 3,
+    lead: 60,
+    lag: 10,
+    slack: 80,
+    step: 30,
+    ..USUAL
+};
 
 // Equal costs, starts and deadlines.
-pub fn ties() -> Shape {
-    let mut its = usual(Graph::Any);
-    its.tasks = 5;
-    its.tied = true;
-    its.volume = 2;
-    its.lead = 60;
-    its.lag = 0;
-    its.slack = 2;
-    its.dispatch = 0;
-    its.scheduling = 0;
-    its.step = 20;
-    its
-}
+pub const TIES: Shape = Shape {
+    tasks: 5,
+    volume: 2,
+    tied: true,
+    lead: 60,
+    lag: 0,
+    slack: 2,
+    dispatch: 0,
+    scheduling: 0,
+    step: 20,
+    ..USUAL
+};
 
 // Figures out of range, in every other job.
-pub fn out_of_range() -> Shape {
-    let mut its = usual(Graph::Any);
-    its.tasks = 16;
-    its.lead = 60;
-    its.lag = 10;
-    its.faults = 2;
-    its.limits = 9;
-    its.numbers = 90;
-    its.submissions = 12;
-    its
-}
+pub const OUT_OF_RANGE: Shape = Shape {
+    tasks: 16,
+    lead: 60,
+    lag: 10,
+    faults: 2,
+    limits: 9,
+    submissions: 12,
+    ..USUAL
+};
 
 // The largest figures.
-pub fn large_figures() -> Shape {
-    let mut its = usual(Graph::Any);
-    its.tasks = 16;
-    its.volume = 1_001;
-    its.run = 1_000_000;
-    its.lead = 4_000_000;
-    its.lag = 900_000;
-    its.slack = 3_000_000;
-    its.dispatch = 200_000;
-    its.scheduling = 1_000_001;
-    its.limits = 4;
-    its.step = 2_000_000;
-    its
-}
+pub const LARGE_FIGURES: Shape = Shape {
+    tasks: 16,
+    volume: 1_001,
+    run: 1_000_000,
+    lead: 4_000_000,
+    lag: 900_000,
+    slack: 3_000_000,
+    dispatch: 200_000,
+    scheduling: 1_000_001,
+    limits: 4,
+    step: 2_000_000,
+    ..USUAL
+};
 
 // A register that stays nearly full of short jobs.
-pub fn crowded() -> Shape {
-    let mut its = usual(Graph::Any);
-    its.tasks = 2;
-    its.lead = 2_000;
-    its.lag = 10;
-    its.dispatch = 2;
-    its.scheduling = 2;
-    its.unable = 1;
-    its.numbers = 900;
-    its.faults = 60;
-    its.submissions = 11;
-    its.withdrawals = 9;
-    its.advances = 2;
-    its.step = 3;
-    its.jumps = false;
-    its
-}
+pub const CROWDED: Shape = Shape {
+    tasks: 2,
+    unable: 1,
+    lead: 2_000,
+    lag: 10,
+    dispatch: 2,
+    scheduling: 2,
+    numbers: 900,
+    faults: 60,
+    submissions: 11,
+    withdrawals: 9,
+    advances: 2,
+    step: 3,
+    jumps: false,
+    ..USUAL
+};
 
 // The same with tasks that send to each other.
-pub fn crowded_graphs() -> Shape {
-    let mut its = crowded();
-    its.tasks = 6;
-    its.numbers = 500;
-    its.submissions = 9;
-    its
-}
+pub const CROWDED_GRAPHS: Shape = Shape {
+    tasks: 6,
+    numbers: 500,
+    submissions: 9,
+    ..CROWDED
+};

@@ -1,13 +1,11 @@
 // A register and a book side by side: each call is made on both, and what they answer and hold after it is compared.
-ghost use Rattle.reservation.specs.Registers.{Valid};
-
 use crate::compare::{rows_apart, same_answer, same_seen, states_apart};
 use crate::convert::converted;
 use crate::counts::{Counts, answered, differing, holding, seen_booked, seen_idle};
 use reference::{Book, RefReply, RefSeen};
 use reservation::{Register, Reply};
 use rules::{Job, Seen};
-use tally::{Ratio, Tally, counted_of, guarantee_ratio};
+use tally::{Tally, guarantee_ratio};
 use workload::draws::plus;
 
 #[derive(Clone, Copy)]
@@ -26,9 +24,7 @@ pub struct Both {
 }
 
 // A fresh register beside this book.
-pub fn opened(book: Book, counts: Counts, seed: u64) -> Both
-    ensures { Valid result.register }
-{
+pub fn opened(book: Book, counts: Counts, seed: u64) -> Both {
     let register = Register::new();
     Both {
         register: register,
@@ -51,9 +47,7 @@ fn larger(a: usize, b: usize) -> usize {
 }
 
 // What both hold after a call.
-fn held_apart(counts: Counts, register: Register, book: Book) -> Counts
-    requires { Valid register }
-{
+fn held_apart(counts: Counts, register: Register, book: Book) -> Counts {
     let count = larger(register.count(), book.count);
     let rows = rows_apart(register, book, count);
     let apart = plus(states_apart(register, book), rows);
@@ -61,10 +55,7 @@ fn held_apart(counts: Counts, register: Register, book: Book) -> Counts
 }
 
 // Both sides have answered.
-fn settled(both: Both, reply: Reply, other: RefReply) -> Both
-    requires { Valid reply.register }
-    ensures { Valid result.register }
-{
+fn settled(both: Both, reply: Reply, other: RefReply) -> Both {
     let register = reply.register;
     let book = other.book;
     let counts = both.counts;
@@ -89,13 +80,9 @@ fn settled(both: Both, reply: Reply, other: RefReply) -> Both
 }
 
 // One submission more in both tallies.
-fn tallied(both: Both) -> Both
-    requires { Valid both.register }
-    ensures { Valid result.register }
-{
+fn tallied(both: Both) -> Both {
     let mut more = both;
-    let tally = both.tally;
-    more.tally = counted_of(tally, both.ours == 0);
+    more.tally = both.tally.counted(both.ours == 0);
     more.arrived = plus(both.arrived, 1);
     if both.theirs == 0 {
         more.admitted = plus(both.admitted, 1);
@@ -103,30 +90,21 @@ fn tallied(both: Both) -> Both
     more
 }
 
-pub fn submit(both: Both, job: Job) -> Both
-    requires { Valid both.register }
-    ensures { Valid result.register }
-{
+pub fn submit(both: Both, job: Job) -> Both {
     let register = both.register;
     let book = both.book;
     let reply = register.submit(job);
     tallied(settled(both, reply, reference::submit(book, converted(job))))
 }
 
-pub fn withdraw(both: Both, number: u64) -> Both
-    requires { Valid both.register }
-    ensures { Valid result.register }
-{
+pub fn withdraw(both: Both, number: u64) -> Both {
     let register = both.register;
     let book = both.book;
     let reply = register.withdraw(number);
     settled(both, reply, reference::withdraw(book, number))
 }
 
-pub fn advance(both: Both, tick: u64) -> Both
-    requires { Valid both.register }
-    ensures { Valid result.register }
-{
+pub fn advance(both: Both, tick: u64) -> Both {
     let register = both.register;
     let book = both.book;
     let reply = register.advance(tick);
@@ -145,10 +123,7 @@ fn looked(counts: Counts, seen: Seen, other: RefSeen) -> Counts {
     differing(more, 1)
 }
 
-pub fn look(both: Both, machine: u64, tick: u64) -> Both
-    requires { Valid both.register }
-    ensures { Valid result.register }
-{
+pub fn look(both: Both, machine: u64, tick: u64) -> Both {
     let register = both.register;
     let book = both.book;
     let counts = both.counts;
@@ -167,11 +142,8 @@ pub struct Parts {
 
 pub fn parts_of(tally: Tally) -> Parts {
     match guarantee_ratio(tally) {
-        Ratio::Of(parts) => Parts {
-            number: 0,
-            parts: parts,
-        },
-        Ratio::Undefined => Parts {
+        Some(parts) => Parts { number: 0, parts },
+        None => Parts {
             number: 18,
             parts: 0,
         },

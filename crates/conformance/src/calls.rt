@@ -1,6 +1,4 @@
 // Made-up calls: which one comes next, and what it asks for.
-ghost use Rattle.reservation.specs.Registers.{Valid};
-
 use crate::both::{Both, advance, look, submit, withdraw};
 use reference::{Book, RefRow, no_row};
 use reservation::Register;
@@ -9,10 +7,7 @@ use workload::draws::{GREATEST, draw, minus, next_seed, plus, rarely};
 use workload::shapes::Shape;
 
 // The next call of a list.
-pub fn next_call(both: Both, shape: Shape) -> Both
-    requires { Valid both.register }
-    ensures { Valid result.register }
-{
+pub fn next_call(both: Both, shape: Shape) -> Both {
     let seed = next_seed(both.seed);
     let mut next = both;
     next.seed = seed;
@@ -22,10 +17,7 @@ pub fn next_call(both: Both, shape: Shape) -> Both
     other_call(next, shape, seed)
 }
 
-fn other_call(both: Both, shape: Shape, seed: u64) -> Both
-    requires { Valid both.register }
-    ensures { Valid result.register }
-{
+fn other_call(both: Both, shape: Shape, seed: u64) -> Both {
     let book = both.book;
     let kind = draw(seed, 11, 16);
     if kind < shape.withdrawals {

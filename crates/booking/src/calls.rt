@@ -1,85 +1,51 @@
 // Calls that print their answers and hand on the register that they leave. What a refusal leaves is checked.
-ghost use Rattle.reservation.specs.Registers.{Valid};
 ghost use Rattle.booking.specs.Untouched.{Untouched};
 
 use crate::printing::{print_answer, print_seen};
 use console::Console;
 use reservation::calls::Call;
 use reservation::{Register, Reply};
-use rules::{Job, Kind};
+use rules::Job;
 
 // A fresh register has clock 0, total 0 and no rows.
-pub fn fresh() -> Register
-    ensures { Valid result }
-{
+pub fn fresh() -> Register {
     let register = Register::new();
-    let clock = register.clock();
-    let total = register.total();
-    let count = register.count();
-    prove!(clock == 0);
-    prove!(total == 0);
-    prove!(count == 0);
+    prove!(register.clock() == 0);
+    prove!(register.total() == 0);
+    prove!(register.count() == 0);
     register
 }
 
-// A refusal leaves the clock, the total and the count as they were.
-fn check_refused(before: Register, reply: Reply)
+// Prints the answer to a call, and hands on the register that it leaves. A refusal leaves the clock, the total and the count as they were.
+fn answered(out: &mut Console, before: Register, reply: Reply) -> Register
     requires { Untouched before reply }
 {
-    if reply.answer.number == 0 {
-        return;
+    let Reply { answer, register } = reply;
+    print_answer(out, answer);
+    if answer.number != 0 {
+        prove!(register.clock() == before.clock());
+        prove!(register.total() == before.total());
+        prove!(register.count() == before.count());
     }
-    let left = reply.register;
-    prove!(left.clock() == before.clock());
-    prove!(left.total() == before.total());
-    prove!(left.count() == before.count());
+    register
 }
 
-pub fn submit(out: &mut Console, register: Register, job: Job) -> Register
-    requires { Valid register }
-    ensures { Valid result }
-{
-    let reply = register.submit(job);
-    print_answer(out, reply.answer);
-    check_refused(register, reply);
-    reply.register
+pub fn submit(out: &mut Console, register: Register, job: Job) -> Register {
+    answered(out, register, register.submit(job))
 }
 
-pub fn withdraw(out: &mut Console, register: Register, number: u64) -> Register
-    requires { Valid register }
-    ensures { Valid result }
-{
-    let reply = register.withdraw(number);
-    print_answer(out, reply.answer);
-    check_refused(register, reply);
-    reply.register
+pub fn withdraw(out: &mut Console, register: Register, number: u64) -> Register {
+    answered(out, register, register.withdraw(number))
 }
 
-pub fn advance(out: &mut Console, register: Register, tick: u64) -> Register
-    requires { Valid register }
-    ensures { Valid result }
-{
-    let reply = register.advance(tick);
-    print_answer(out, reply.answer);
-    check_refused(register, reply);
-    reply.register
+pub fn advance(out: &mut Console, register: Register, tick: u64) -> Register {
+    answered(out, register, register.advance(tick))
 }
 
-pub fn apply(out: &mut Console, register: Register, kind: Kind, job: Job) -> Register
-    requires { Valid register }
-    ensures { Valid result }
-{
-    let reply = register.apply(Call {
-        kind: kind,
-        job: job,
-    });
-    print_answer(out, reply.answer);
-    check_refused(register, reply);
-    reply.register
+pub fn apply(out: &mut Console, register: Register, call: Call) -> Register {
+    answered(out, register, register.apply(call))
 }
 
-pub fn look(out: &mut Console, register: Register, machine: u64, tick: u64)
-    requires { Valid register }
-{
+pub fn look(out: &mut Console, register: Register, machine: u64, tick: u64) {
     print_seen(out, register.look(machine, tick));
 }

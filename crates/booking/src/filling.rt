@@ -1,6 +1,4 @@
 // A register that is filled, freed in part and filled again.
-ghost use Rattle.reservation.specs.Registers.{Valid};
-
 use crate::calls::{advance, submit, withdraw};
 use crate::printing::{heading, print_answer, print_state};
 use builder::{alone, task};
@@ -9,29 +7,21 @@ use reservation::Register;
 use workload::examples::{one_row, three_rows};
 
 // Jobs of one row, with the numbers from `first` up to `end` and not `end`, or up to the first that is refused, whose answer is printed.
-fn fill(out: &mut Console, register: Register, first: u64, end: u64) -> Register
-    requires { Valid register }
-    ensures { Valid result }
-{
+fn fill(out: &mut Console, register: Register, first: u64, end: u64) -> Register {
     let mut left = register;
-    let mut number = first;
-    while number < end {
+    for number in first..end {
         let reply = left.submit(one_row(number));
         if reply.answer.number != 0 {
             print_answer(out, reply.answer);
             return reply.register;
         }
         left = reply.register;
-        number += 1;
     }
     left
 }
 
 // 8: with 255 rows a job of one row fits, with 256 it does not.
-pub fn filled(out: &mut Console, register: Register) -> Register
-    requires { Valid register }
-    ensures { Valid result }
-{
+pub fn filled(out: &mut Console, register: Register) -> Register {
     heading(out, b"filled");
     let mut left = fill(out, register, 1, 255);
     print_state(out, left);
@@ -50,10 +40,7 @@ pub fn filled(out: &mut Console, register: Register) -> Register
 }
 
 // Freed rows serve later jobs.
-pub fn refilled(out: &mut Console, register: Register) -> Register
-    requires { Valid register }
-    ensures { Valid result }
-{
+pub fn refilled(out: &mut Console, register: Register) -> Register {
     heading(out, b"refilled");
     let mut left = withdraw(out, register, 1);
     left = withdraw(out, left, 128);
@@ -74,10 +61,7 @@ pub fn refilled(out: &mut Console, register: Register) -> Register
     left
 }
 
-pub fn emptied(out: &mut Console, register: Register) -> Register
-    requires { Valid register }
-    ensures { Valid result }
-{
+pub fn emptied(out: &mut Console, register: Register) -> Register {
     heading(out, b"emptied");
     let mut left = advance(out, register, 999_999_999);
     print_state(out, left);

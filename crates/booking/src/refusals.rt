@@ -1,20 +1,16 @@
 // Every refusal, and the calls at the limits beside it, on one register.
-ghost use Rattle.reservation.specs.Registers.{Valid};
-
 use crate::calls::{advance, apply, look, submit, withdraw};
 use crate::printing::{heading, print_state};
-use builder::{alone, numbered};
+use builder::alone;
 use console::Console;
 use reservation::Register;
-use rules::{Job, Kind};
+use reservation::calls::Call;
+use rules::Job;
 use workload::examples::{job_a, job_h};
 use workload::limits::{easy, largest};
 use workload::refused;
 
-fn submit_each(out: &mut Console, register: Register, jobs: &[Job]) -> Register
-    requires { Valid register }
-    ensures { Valid result }
-{
+fn submit_each(out: &mut Console, register: Register, jobs: &[Job]) -> Register {
     let mut left = register;
     for job in jobs {
         left = submit(out, left, *job);
@@ -23,10 +19,7 @@ fn submit_each(out: &mut Console, register: Register, jobs: &[Job]) -> Register
 }
 
 // 1 and 2.
-pub fn by_counts(out: &mut Console, register: Register) -> Register
-    requires { Valid register }
-    ensures { Valid result }
-{
+pub fn by_counts(out: &mut Console, register: Register) -> Register {
     heading(out, b"numbers and counts");
     let mut left = submit_each(out, register, &refused::by_counts());
     print_state(out, left);
@@ -36,10 +29,7 @@ pub fn by_counts(out: &mut Console, register: Register) -> Register
 }
 
 // 3, and 4 by a volume, beside the largest figures.
-pub fn by_figures(out: &mut Console, register: Register) -> Register
-    requires { Valid register }
-    ensures { Valid result }
-{
+pub fn by_figures(out: &mut Console, register: Register) -> Register {
     heading(out, b"figures");
     let mut left = submit(out, register, largest(1_000_000));
     print_state(out, left);
@@ -50,10 +40,7 @@ pub fn by_figures(out: &mut Console, register: Register) -> Register
 }
 
 // 3, in the last task of the largest job.
-pub fn by_figures_of_tasks(out: &mut Console, register: Register) -> Register
-    requires { Valid register }
-    ensures { Valid result }
-{
+pub fn by_figures_of_tasks(out: &mut Console, register: Register) -> Register {
     heading(out, b"figures of tasks");
     let left = submit_each(out, register, &refused::by_last_task());
     print_state(out, left);
@@ -61,10 +48,7 @@ pub fn by_figures_of_tasks(out: &mut Console, register: Register) -> Register
 }
 
 // 4.
-pub fn by_messages(out: &mut Console, register: Register) -> Register
-    requires { Valid register }
-    ensures { Valid result }
-{
+pub fn by_messages(out: &mut Console, register: Register) -> Register {
     heading(out, b"messages");
     let left = submit_each(out, register, &refused::by_messages());
     print_state(out, left);
@@ -72,10 +56,7 @@ pub fn by_messages(out: &mut Console, register: Register) -> Register
 }
 
 // Jobs that break two or three rules: the first rule answers.
-pub fn by_order(out: &mut Console, register: Register) -> Register
-    requires { Valid register }
-    ensures { Valid result }
-{
+pub fn by_order(out: &mut Console, register: Register) -> Register {
     heading(out, b"order");
     let left = submit_each(out, register, &refused::by_order());
     print_state(out, left);
@@ -83,10 +64,7 @@ pub fn by_order(out: &mut Console, register: Register) -> Register
 }
 
 // 6 names the lowest task, 7 the one at its turn; both compare with the deadline itself.
-pub fn by_turns(out: &mut Console, register: Register) -> Register
-    requires { Valid register }
-    ensures { Valid result }
-{
+pub fn by_turns(out: &mut Console, register: Register) -> Register {
     heading(out, b"turns");
     let mut left = submit_each(out, register, &refused::by_turns());
     left = withdraw(out, left, 11);
@@ -96,10 +74,7 @@ pub fn by_turns(out: &mut Console, register: Register) -> Register
 }
 
 // 9 and 10.
-pub fn of_withdrawals(out: &mut Console, register: Register) -> Register
-    requires { Valid register }
-    ensures { Valid result }
-{
+pub fn of_withdrawals(out: &mut Console, register: Register) -> Register {
     heading(out, b"withdrawals");
     let mut left = withdraw(out, register, 0);
     left = withdraw(out, left, u64::MAX);
@@ -114,10 +89,7 @@ pub fn of_withdrawals(out: &mut Console, register: Register) -> Register
     of_later_withdrawals(out, left)
 }
 
-fn of_later_withdrawals(out: &mut Console, register: Register) -> Register
-    requires { Valid register }
-    ensures { Valid result }
-{
+fn of_later_withdrawals(out: &mut Console, register: Register) -> Register {
     let mut left = withdraw(out, register, 10);
     left = withdraw(out, left, 8);
     left = withdraw(out, left, 12);
@@ -127,9 +99,7 @@ fn of_later_withdrawals(out: &mut Console, register: Register) -> Register
 }
 
 // Look, and 13.
-pub fn looks(out: &mut Console, register: Register)
-    requires { Valid register }
-{
+pub fn looks(out: &mut Console, register: Register) {
     heading(out, b"looks");
     look(out, register, 0, 4);
     look(out, register, 5, 4);
@@ -144,37 +114,28 @@ pub fn looks(out: &mut Console, register: Register)
 }
 
 // The clock is moved by the call of any kind.
-fn move_to(out: &mut Console, register: Register, tick: u64) -> Register
-    requires { Valid register }
-    ensures { Valid result }
-{
-    apply(out, register, Kind::Advance(tick), numbered(0))
+fn move_to(out: &mut Console, register: Register, tick: u64) -> Register {
+    apply(out, register, Call::Advance(tick))
 }
 
 // 11 and 12, by the call of any kind.
-pub fn of_advances(out: &mut Console, register: Register) -> Register
-    requires { Valid register }
-    ensures { Valid result }
-{
+pub fn of_advances(out: &mut Console, register: Register) -> Register {
     heading(out, b"advances");
     let mut left = move_to(out, register, 3);
     left = move_to(out, left, 4);
     left = move_to(out, left, 1_000_000_001);
     left = move_to(out, left, u64::MAX);
-    left = apply(out, left, Kind::Submit, job_a(10));
-    left = apply(out, left, Kind::Withdraw(7), numbered(0));
+    left = apply(out, left, Call::Submit(job_a(10)));
+    left = apply(out, left, Call::Withdraw(7));
     left = move_to(out, left, 15);
     print_state(out, left);
     of_later_advances(out, left)
 }
 
-fn of_later_advances(out: &mut Console, register: Register) -> Register
-    requires { Valid register }
-    ensures { Valid result }
-{
+fn of_later_advances(out: &mut Console, register: Register) -> Register {
     let mut left = move_to(out, register, 21);
     print_state(out, left);
-    left = apply(out, left, Kind::Submit, job_a(40));
+    left = apply(out, left, Call::Submit(job_a(40)));
     left = move_to(out, left, 50);
-    apply(out, left, Kind::Withdraw(7), numbered(0))
+    apply(out, left, Call::Withdraw(7))
 }

@@ -1,13 +1,11 @@
 // A register and a book side by side: each call is made on both, and what they answer and hold after it is compared.
-ghost use Rattle.reservation.specs.Registers.{Valid};
-
 use crate::compare::{rows_apart, same_answer, same_seen, states_apart};
 use crate::convert::converted;
 use crate::counts::{Counts, answered, differing, holding, seen_booked, seen_idle};
 use reference::{Admission, Book, RefRow, Refusal};
 use reservation::{Register, Reply};
 use rules::{Job, Seen};
-use tally::{Ratio, Tally, counted_of, guarantee_ratio};
+use tally::{Tally, guarantee_ratio};
 use workload::draws::Draws;
 
 #[derive(Clone, Copy)]
@@ -26,9 +24,7 @@ pub struct Both {
 }
 
 // A fresh register beside this book.
-pub fn opened(book: Book, counts: Counts, draws: Draws) -> Both
-    ensures { Valid result.register }
-{
+pub fn opened(book: Book, counts: Counts, draws: Draws) -> Both {
     let register = Register::new();
     Both {
         register: register,
@@ -50,9 +46,7 @@ pub fn opened(book: Book, counts: Counts, draws: Draws) -> Both
 const NO_ROWS: Admission = Admission { cost: 0, rows: 0 };
 
 // What both hold after a call.
-fn held_apart(counts: Counts, register: Register, book: &Book) -> Counts
-    requires { Valid register }
-{
+fn held_apart(counts: Counts, register: Register, book: &Book) -> Counts {
     let count = register.count().max(book.rows().len());
     let rows = rows_apart(register, book, count);
     let apart = states_apart(register, book).saturating_add(rows);
@@ -65,10 +59,7 @@ pub fn refusal_number<T: Copy>(answer: Result<T, Refusal>) -> u64 {
 }
 
 // Both sides have answered.
-fn settled(both: Both, reply: Reply, book: Book, theirs: Result<Admission, Refusal>) -> Both
-    requires { Valid reply.register }
-    ensures { Valid result.register }
-{
+fn settled(both: Both, reply: Reply, book: Book, theirs: Result<Admission, Refusal>) -> Both {
     let register = reply.register;
     let counts = both.counts;
     let ours = reply.answer;
@@ -91,13 +82,9 @@ fn settled(both: Both, reply: Reply, book: Book, theirs: Result<Admission, Refus
 }
 
 // One submission more in both tallies.
-fn tallied(both: Both) -> Both
-    requires { Valid both.register }
-    ensures { Valid result.register }
-{
+fn tallied(both: Both) -> Both {
     let mut more = both;
-    let tally = both.tally;
-    more.tally = counted_of(tally, both.ours == 0);
+    more.tally = both.tally.counted(both.ours == 0);
     more.arrived = both.arrived.saturating_add(1);
     if both.theirs == 0 {
         more.admitted = both.admitted.saturating_add(1);
@@ -105,10 +92,7 @@ fn tallied(both: Both) -> Both
     more
 }
 
-pub fn submit(both: Both, job: Job) -> Both
-    requires { Valid both.register }
-    ensures { Valid result.register }
-{
+pub fn submit(both: Both, job: Job) -> Both {
     let register = both.register;
     let mut book = both.book;
     let reply = register.submit(job);
@@ -116,10 +100,7 @@ pub fn submit(both: Both, job: Job) -> Both
     tallied(settled(both, reply, book, theirs))
 }
 
-pub fn withdraw(both: Both, number: u64) -> Both
-    requires { Valid both.register }
-    ensures { Valid result.register }
-{
+pub fn withdraw(both: Both, number: u64) -> Both {
     let register = both.register;
     let mut book = both.book;
     let reply = register.withdraw(number);
@@ -127,10 +108,7 @@ pub fn withdraw(both: Both, number: u64) -> Both
     settled(both, reply, book, theirs)
 }
 
-pub fn advance(both: Both, tick: u64) -> Both
-    requires { Valid both.register }
-    ensures { Valid result.register }
-{
+pub fn advance(both: Both, tick: u64) -> Both {
     let register = both.register;
     let mut book = both.book;
     let reply = register.advance(tick);
@@ -150,10 +128,7 @@ fn looked(counts: Counts, seen: Seen, other: Result<Option<RefRow>, Refusal>) ->
     differing(more, 1)
 }
 
-pub fn look(both: Both, machine: u64, tick: u64) -> Both
-    requires { Valid both.register }
-    ensures { Valid result.register }
-{
+pub fn look(both: Both, machine: u64, tick: u64) -> Both {
     let register = both.register;
     let counts = both.counts;
     let seen = register.look(machine, tick);
@@ -164,10 +139,7 @@ pub fn look(both: Both, machine: u64, tick: u64) -> Both
 
 // The ratio of the register's side, as the other side gives it.
 pub fn parts_of(tally: Tally) -> Result<u64, Refusal> {
-    match guarantee_ratio(tally) {
-        Ratio::Of(parts) => Ok(parts),
-        Ratio::Undefined => Err(Refusal::NoRatio),
-    }
+    guarantee_ratio(tally).ok_or(Refusal::NoRatio)
 }
 
 // The ratio of a list's submissions, 1 where the two sides differ.

@@ -1,6 +1,4 @@
 // Made-up calls: which one comes next, and what it asks for.
-ghost use Rattle.reservation.specs.Registers.{Valid};
-
 use crate::both::{Both, advance, look, submit, withdraw};
 use reference::{Book, RefHolder, RefRow};
 use reservation::Register;
@@ -9,10 +7,7 @@ use workload::draws::Draws;
 use workload::shapes::Shape;
 
 // The next call of a list.
-pub fn next_call(both: Both, shape: Shape) -> Both
-    requires { Valid both.register }
-    ensures { Valid result.register }
-{
+pub fn next_call(both: Both, shape: Shape) -> Both {
     let draws = both.draws.next();
     let next = Both { draws, ..both };
     if draws.draw(10, 16) < shape.submissions {
@@ -21,19 +16,17 @@ pub fn next_call(both: Both, shape: Shape) -> Both
     other_call(next, shape, draws)
 }
 
-fn other_call(both: Both, shape: Shape, draws: Draws) -> Both
-    requires { Valid both.register }
-    ensures { Valid result.register }
-{
-    let book = &both.book;
+fn other_call(both: Both, shape: Shape, draws: Draws) -> Both {
     let kind = draws.draw(11, 16);
     if kind < shape.withdrawals {
-        return withdraw(both, number_of(book, shape, draws));
+        let number = number_of(&both.book, shape, draws);
+        return withdraw(both, number);
     }
     if kind < shape.withdrawals.saturating_add(shape.advances) {
-        return advance(both, tick_of(book, shape, draws));
+        let tick = tick_of(&both.book, shape, draws);
+        return advance(both, tick);
     }
-    let view = view_of(book, shape, draws);
+    let view = view_of(&both.book, shape, draws);
     look(both, view.machine, view.tick)
 }
 

@@ -1,5 +1,4 @@
 // The examples that document 01 leaves to a program.
-ghost use Rattle.reservation.specs.Registers.{Valid};
 
 use crate::both::{
     Both, advance, opened, parts_of, ratios_apart, refusal_number, submit, withdraw,
@@ -20,10 +19,7 @@ fn costliest(number: u64) -> Job {
 }
 
 // Jobs of one row, numbered from 1 up to the end and not the end.
-fn filled(both: Both, end: u64, costly: bool) -> Both
-    requires { Valid both.register }
-    ensures { Valid result.register }
-{
+fn filled(both: Both, end: u64, costly: bool) -> Both {
     let mut left = both;
     for number in 1..end {
         let job = if costly {
@@ -37,12 +33,10 @@ fn filled(both: Both, end: u64, costly: bool) -> Both
 }
 
 // One job of one row more, with what both sides answer.
-fn one_more(out: &mut Console, both: Both, number: u64) -> Both
-    requires { Valid both.register }
-    ensures { Valid result.register }
-{
+fn one_more(out: &mut Console, both: Both, number: u64) -> Both {
+    let held = both.book.rows().len() as u64;
     let more = submit(both, one_row(number));
-    print_figure(out, b"one row more beside ", both.book.rows().len() as u64);
+    print_figure(out, b"one row more beside ", held);
     print_figure(out, b": answer=", more.ours);
     print_line(out, b" reference answer=", more.theirs);
     more
@@ -57,20 +51,19 @@ pub fn row_limit(out: &mut Console, counts: Counts) -> Counts {
 }
 
 // The total of both sides, which passes 32 bits.
-fn print_total(out: &mut Console, both: Both) {
-    let register = both.register;
-    print_figure(out, b"total=", register.total());
+fn print_total(out: &mut Console, both: &Both) {
+    print_figure(out, b"total=", both.register.total());
     print_line(out, b" reference total=", both.book.total());
 }
 
 // A full register of the largest costs; then a job is withdrawn, and a hundred end.
 pub fn largest_total(out: &mut Console, counts: Counts) -> Counts {
     let full = filled(opened(Book::new(), counts, Draws::new(1)), 257, true);
-    print_total(out, full);
+    print_total(out, &full);
     let less = withdraw(full, 200);
-    print_total(out, less);
+    print_total(out, &less);
     let later = advance(less, 100_000_000);
-    print_total(out, later);
+    print_total(out, &later);
     later.counts
 }
 

@@ -1,6 +1,4 @@
 // The lists of calls, each on a fresh register and a fresh book.
-ghost use Rattle.reservation.specs.Registers.{Valid};
-
 use crate::both::{Both, advance, opened, ratios_apart};
 use crate::calls::next_call;
 use crate::counts::{Counts, differing};
@@ -15,10 +13,7 @@ use workload::shapes::{
 };
 
 // So many calls from one seed, each handed what the last one left.
-fn called(both: Both, shape: Shape, calls: u64) -> Both
-    requires { Valid both.register }
-    ensures { Valid result.register }
-{
+fn called(both: Both, shape: Shape, calls: u64) -> Both {
     let mut left = both;
     for i in 0..calls {
         left = next_call(left, shape);
@@ -37,10 +32,9 @@ fn one_list(
 ) -> Counts {
     let begun = advance(opened(book, counts, draws), tick);
     let left = called(begun, shape, calls);
+    let apart = ratios_apart(left.tally, left.arrived, left.admitted);
     let emptied = advance(left, Register::HORIZON);
-    let tally = left.tally;
-    let all = emptied.counts;
-    differing(all, ratios_apart(tally, left.arrived, left.admitted))
+    differing(emptied.counts, apart)
 }
 
 // Several lists of one shape, each from a seed of its own.

@@ -1,19 +1,19 @@
 -- Refusals 1 and 2, which come first whatever the tables, the clock and the rows: a job whose counts are too large has one of them for its answer.
 use mathlib.Core.Path.{◌≡◌, refl, ap}
 use mathlib.Core.Bool.{true}
+use mathlib.Core.Logic.{◌⊎◌}
 use Prim.Native.Nat.{ℕ, ◌≤◌, ◌<◌}
 use native.Mathlib.Omega.{arith}
-use borrow.Author.Tests.{lt-ltb}
+use Rattle.std.proofs.lemmas.Bool.Decides.{nat_tests}
 use Rattle.rules.specs.declared.Job.{Job}
 use Rattle.rules.specs.declared.Setup.{Setup}
 use Rattle.rules.specs.Words.{View, largest_number, most_tasks, most_messages}
 use Rattle.rules.specs.Refusals.{refuse_if, outside, miscounted, submit_tests, submit_answer, refusal}
 use Rattle.rules.specs.Demands.{here}
-use Rattle.rules.proofs.Sequences.{or_left, or_right}
 use Rattle.rules.proofs.Tests.{all_left, number_passed}
-use Rattle.screening.proofs.Ranged.{outside_below, outside_above, inside}
+use Rattle.screening.proofs.Ranged.{inside}
 use Rattle.screening.proofs.Firsts.{first_answers}
-use Rattle.reservation.specs.Parts.{CountsFit, CountsAnswer}
+use Rattle.reservation.specs.Parts.{CountsAnswer}
 
 -- of one job
 module _ (s : Setup) (v : View) (j : Job) where
@@ -27,38 +27,18 @@ module _ (s : Setup) (v : View) (j : Job) where
       first_answers s v j ((number_passed s v j (inside 1 largest_number j.number low high)).first (here refl (ap refuse_if b)))
 
 module _ {number tasks messages : ℕ} where
-  pub counts_in_range : CountsFit tasks messages → CountsAnswer number tasks messages 0
-  counts_in_range fit = record { refuses = λ ne. absurd (ne refl); fit = λ z. fit }
-
-  pub number_low : number < 1 → CountsAnswer number tasks messages 1
-  number_low h = record {
-    refuses = λ ne s v j is _ _. number_refused s v j (outside_below 1 largest_number j.number (omega arith));
-    fit = λ z. absurd (omega arith);
-  }
-
-  pub number_high : largest_number < number → CountsAnswer number tasks messages 1
-  number_high h = record {
-    refuses = λ ne s v j is _ _. number_refused s v j (outside_above 1 largest_number j.number (omega arith));
+  pub number_out : (number < 1) ⊎ (largest_number < number) → CountsAnswer number tasks messages 1
+  number_out out = record {
+    refuses = λ ne s v j is _ _. number_refused s v j (grind (arith, nat_tests));
     fit = λ z. absurd (omega arith);
   }
 
   -- the number is in range, and a count is not
-  module _ (low : 1 ≤ number) (high : number ≤ largest_number) where
-    pub many_tasks : most_tasks < tasks → CountsAnswer number tasks messages 2
-    unfolding miscounted
-    many_tasks h = record {
-      refuses =
-          λ ne s v j is t_is m_is.
-          counts_refused s v j (omega arith) (omega arith) (or_left _ _ (outside_above 1 most_tasks j.taskcount (omega arith)));
-      fit = λ z. absurd (omega arith);
-    }
-
-    pub many_messages : most_messages < messages → CountsAnswer number tasks messages 2
-    unfolding miscounted
-    many_messages h = record {
-      refuses =
-          λ ne s v j is t_is m_is.
-          counts_refused s v j (omega arith) (omega arith)
-          (or_right (outside 1 most_tasks j.taskcount) _ (lt-ltb most_messages j.messagecount (omega arith)));
-      fit = λ z. absurd (omega arith);
-    }
+  pub counts_out :
+      (1 ≤ number) × (number ≤ largest_number) → ((tasks ≤ most_tasks) × (most_messages < messages)) ⊎ (most_tasks < tasks) →
+      CountsAnswer number tasks messages 2
+  unfolding miscounted
+  counts_out range out = record {
+    refuses = λ ne s v j is t_is m_is. counts_refused s v j (omega arith) (omega arith) (grind (arith, nat_tests));
+    fit = λ z. absurd (omega arith);
+  }

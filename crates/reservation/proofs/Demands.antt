@@ -8,17 +8,17 @@ use Rattle.rules.proofs.Demand2.{demand_2}
 use Rattle.rules.proofs.Struck.{step_still}
 use Rattle.reservation.specs.declared.Register.{Register}
 use Rattle.reservation.specs.declared.Reply.{Reply}
-use Rattle.reservation.specs.Registers.{state_of, register_of, Valid}
+use Rattle.reservation.specs.Registers.{state_of, register_of}
 use Rattle.reservation.specs.Calls.{Steps, Submits}
 use Rattle.reservation.specs.Demands.{Demand1OfCode, Demand2OfCode}
 
-pub demand_1_of_code : {r : Register} {c : Call} {result : Reply} → Valid r → Steps r c result → Demand1OfCode r c result
-demand_1_of_code {r} {c} {result} valid steps = record {
+pub demand_1_of_code : {r : Register} {c : Call} {result : Reply} → Steps r c result → Demand1OfCode r c result
+demand_1_of_code {r} {c} {result} steps = record {
   answered = rw steps.answer_is (demand_1 r.setup (state_of r) c).answered;
   untouched =
       λ ne.
       let still = step_still r.setup (state_of r) c (ap accepted (sym steps.answer_is) ∙ ne_eqb result.answer.number 0 ne) in
-      steps.left_is ∙ (ap (register_of r.setup) still ∙ sym valid.kept);
+      steps.left_is ∙ ap (register_of r.setup) still;
 }
 
 pub demand_2_of_code : {r : Register} {j : Job} {result : Reply} → Submits r j result → Demand2OfCode r j result

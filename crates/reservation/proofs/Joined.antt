@@ -1,6 +1,6 @@
 -- The rows of an admitted job put behind those held: after i of them, the slots hold the rows held and the first i.
 use mathlib.Core.Path.{◌≡◌, sym, ap, ◌∙◌}
-use mathlib.Core.List.{List, [], ◌∷◌, ◌++◌, append-nil, append_assoc}
+use mathlib.Core.List.{List, [], ◌∷◌, ◌++◌, append_assoc}
 use Prim.Native.Nat.{ℕ, ◌+◌, ◌≤◌, ◌<◌}
 use native.Mathlib.Omega.{arith}
 use native.Mathlib.Numerals.{add-one}
@@ -11,7 +11,7 @@ use Rattle.rules.specs.declared.Setup.{Setup}
 use Rattle.rules.specs.Words.{row_limit}
 use Rattle.rules.specs.Placing.{no_row}
 use Rattle.rules.proofs.Sequences.{get_or_mem}
-use Rattle.timeline.specs.RowLine.{most_own, slots}
+use Rattle.timeline.specs.RowLine.{slots}
 use Rattle.placement.specs.Own.{nth_entry, AskRow, RowIs}
 use Rattle.reservation.specs.Parts.{Joining, AskMore, MoreIs}
 use Rattle.placement.proofs.Entries.{label_below}
@@ -19,36 +19,20 @@ use Rattle.reservation.proofs.Slotted.{slot_next}
 
 -- after i rows
 pub record Joined (held : List Row) (count : ℕ) (own : List ℕ) (more job : ℕ) (rows : List Row) (i : ℕ) : Type 0 where
-  pub within : i ≤ more
   pub follows : (s : Setup) (old new : List Row) → Joining s old new held count own more job → rows ≡ slots row_limit (old ++ take i new)
 
 module _ {held : List Row} {count : ℕ} {own : List ℕ} {more job : ℕ} where
-  -- What the turn with row i asks.
-  module _ (ask : AskMore held count own more job) {i : ℕ} (below : i < more) where
-    new_below : i < length ask.new
-    new_below = omega (arith, ask.joining.more_is)
-
-    pub own_below : i < most_own
-    own_below = omega (arith, new_below, ask.joining.few)
-
-    pub slot_below : count + i < row_limit
-    slot_below = omega (arith, new_below, ask.joining.count_is, ask.joining.fits)
-
-    pub label_asked : AskRow (nth_entry own i)
-    label_asked =
-        let join = ask.joining in
-        let row = get_or ask.new i no_row in
-        rw
-        (ap (λ x. x.label) (join.own_is.is i new_below))
-        (label_below join.sound (join.in_range row (get_or_mem ask.new i no_row new_below)).holder)
-
-  pub joined_none : Joined held count own more job held 0
-  joined_none = record { within = omega arith; follows = λ s old new join. join.held_is ∙ ap (slots row_limit) (sym (append-nil old)) }
+  -- what the turn with row i asks
+  pub label_asked : AskMore held count own more job → {i : ℕ} → i < more → AskRow (nth_entry own i)
+  label_asked ask {i} below =
+      let join = ask.joining in
+      let there : i < length ask.new = omega (arith, join.more_is) in
+      let row = get_or ask.new i no_row in
+      rw (ap (λ x. x.label) (join.own_is.is i there)) (label_below join.sound (join.in_range row (get_or_mem ask.new i no_row there)).holder)
 
   module _ {rows : List Row} {i : ℕ} (sofar : Joined held count own more job rows i) where
     pub joined_more : {row : Row} → i < more → RowIs (nth_entry own i) job row → Joined held count own more job (set rows (count + i) row) (i + 1)
     joined_more {row} below is = record {
-      within = omega arith;
       follows =
           λ s old new join.
           let there : i < length new = omega (arith, join.more_is) in

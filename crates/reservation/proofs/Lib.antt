@@ -5,7 +5,6 @@ pub mod Joined
 pub mod Staying
 pub mod Leaving
 pub mod Stepped
-pub mod Applied
 pub mod Counted
 pub mod Sighted
 pub mod Demands

@@ -29,11 +29,12 @@ use Rattle.timeline.proofs.Line.{line_long, line_from, line_drawn}
 use Rattle.placement.specs.declared.own.Entry.{Entry}
 use Rattle.placement.specs.Own.{entry_for, RowIs}
 use Rattle.reservation.specs.declared.Register.{Register}
-use Rattle.reservation.specs.Registers.{state_of, Valid}
+use Rattle.reservation.specs.declared.Register.TheInside.{Inside}
+use Rattle.reservation.specs.Registers.{state_of}
 use Rattle.reservation.specs.Calls.{Looks}
 use Rattle.placement.proofs.Appending.{in_range_drawable}
 use Rattle.placement.proofs.Entries.{label_below}
-use Rattle.reservation.proofs.Values.{held, held_length, count_few, valid_timetable, valid_long}
+use Rattle.reservation.proofs.Values.{FieldsOf, count_is, count_few, columns_long}
 
 -- where a tick of a machine is on the line
 abbrev pub place_of : (m tick : ℕ) → ℕ
@@ -81,66 +82,66 @@ one_runs rows {m} {tick} apart {a} {b} a_listed b_listed a_runs b_runs =
     let same : i.0 ≡ k.0 = omega arith in
     sym i.2 ∙ ap (λ n. get_or rows n no_row) same ∙ k.2))
 
--- The line of a valid register.
-module _ {r : Register} (valid : Valid r) where
-  held_drawn : Drawn (holds (held valid)) r.begins r.ends r.status.count
+-- The line of the fields of a register.
+module _ {r : Register} {a : Inside} (of : FieldsOf r a) where
+  held_drawn : Drawn (holds r.state.rows) a.begins a.ends a.status.count
   held_drawn =
-      let few = valid.bounded.count in
+      let few = of.timetable.bounded.count in
       let drawn =
       line_drawn
-      (held valid)
+      r.state.rows
       (omega arith)
-      (λ row m. in_range_drawable valid.sound (valid.bounded.rows row m))
-      (shares_none_apart (held valid) valid.bounded.apart)
+      (λ row m. in_range_drawable of.timetable.sound (of.timetable.bounded.rows row m))
+      (shares_none_apart r.state.rows of.timetable.bounded.apart)
       in
-      let spans = (valid_timetable valid).spans in
-      subst (Drawn (holds (held valid)) r.begins r.ends) (held_length valid) (rw (spans.begins_are, spans.ends_are) drawn)
+      let spans = of.timetable.spans in
+      subst (Drawn (holds r.state.rows) a.begins a.ends) (sym (count_is of)) (rw (spans.begins_are, spans.ends_are) drawn)
 
   -- what the search asks
-  pub ends_asked : AskFirst r.ends r.status.count
+  pub ends_asked : AskFirst a.ends a.status.count
   ends_asked = record { long = held_drawn.ends_long; ascend = ends_ascend held_drawn }
 
   -- the row at an index
-  module _ {at : ℕ} (below : at < r.status.count) where
+  module _ {at : ℕ} (below : at < a.status.count) where
     abbrev its_row : Row
-    its_row = get_or (line_of (held valid)) at no_row
+    its_row = get_or (line_of r.state.rows) at no_row
 
-    on_line : at < length (line_of (held valid))
-    on_line = omega (arith, line_long (held valid), held_length valid)
+    on_line : at < length (line_of r.state.rows)
+    on_line = omega (arith, line_long r.state.rows, sym (count_is of))
 
-    its_row_held : Memᴰ its_row (held valid)
-    its_row_held = line_from (held valid) (get_or_mem (line_of (held valid)) at no_row on_line)
+    its_row_held : Memᴰ its_row r.state.rows
+    its_row_held = line_from r.state.rows (get_or_mem (line_of r.state.rows) at no_row on_line)
 
     its_row_range : RowInRange r.setup its_row
-    its_row_range = valid.bounded.rows its_row its_row_held
+    its_row_range = of.timetable.bounded.rows its_row its_row_held
 
-    begin_there : get_or r.begins at 0 ≡ row_begin its_row
-    begin_there = ap (λ l. get_or l at 0) (valid_timetable valid).spans.begins_are ∙ column_at row_begin (line_of (held valid)) at on_line
+    begin_there : get_or a.begins at 0 ≡ row_begin its_row
+    begin_there = ap (λ l. get_or l at 0) of.timetable.spans.begins_are ∙ column_at row_begin (line_of r.state.rows) at on_line
 
-    end_there : get_or r.ends at 0 ≡ row_end its_row
-    end_there = ap (λ l. get_or l at 0) (valid_timetable valid).spans.ends_are ∙ column_at row_end (line_of (held valid)) at on_line
+    end_there : get_or a.ends at 0 ≡ row_end its_row
+    end_there = ap (λ l. get_or l at 0) of.timetable.spans.ends_are ∙ column_at row_end (line_of r.state.rows) at on_line
 
-    job_there : get_or r.jobs at 0 ≡ its_row.job
-    job_there = ap (λ l. get_or l at 0) (valid_timetable valid).jobs_are ∙ column_at (λ row. row.job) (line_of (held valid)) at on_line
+    job_there : get_or a.jobs at 0 ≡ its_row.job
+    job_there = ap (λ l. get_or l at 0) of.timetable.jobs_are ∙ column_at (λ row. row.job) (line_of r.state.rows) at on_line
 
-    pub note_asked : AskNote r.notes at
-    note_asked = record { long = (valid_long valid).notes_long; there = omega (arith, count_few valid) }
+    pub note_asked : AskNote a.notes at
+    note_asked = record { long = (columns_long of).notes_long; there = omega (arith, count_few of) }
 
-    module _ {note : Note} (noted : note ≡ nth_note r.notes at) where
+    module _ {note : Note} (noted : note ≡ nth_note a.notes at) where
       -- the figures at the index
       abbrev pub entry_there : Entry
-      entry_there = record { at = 0; begin = get_or r.begins at 0; end = get_or r.ends at 0; label = note.label; cost = note.cost }
+      entry_there = record { at = 0; begin = get_or a.begins at 0; end = get_or a.ends at 0; label = note.label; cost = note.cost }
 
       entry_is : entry_there ≡ entry_for 0 its_row
       entry_is =
-          let stands = noted ∙ ap (λ l. nth_note l at) (valid_timetable valid).notes_are ∙ note_stands _ (line_of (held valid)) at on_line in
+          let stands = noted ∙ ap (λ l. nth_note l at) of.timetable.notes_are ∙ note_stands _ (line_of r.state.rows) at on_line in
           λ i. record { at = 0; begin = begin_there i; end = end_there i; label = (stands i).label; cost = (stands i).cost }
 
       pub label_there : note.label < label_bound
-      label_there = rw (ap (λ x. x.label) entry_is) (label_below valid.sound its_row_range.holder)
+      label_there = rw (ap (λ x. x.label) entry_is) (label_below of.timetable.sound its_row_range.holder)
 
-      row_is : {row : Row} → RowIs entry_there (get_or r.jobs at 0) row → row ≡ its_row
-      row_is is = is r.setup its_row valid.sound its_row_range entry_is (sym job_there)
+      row_is : {row : Row} → RowIs entry_there (get_or a.jobs at 0) row → row ≡ its_row
+      row_is is = is r.setup its_row of.timetable.sound its_row_range entry_is (sym job_there)
 
 -- What is seen in a register.
 module _ (r : Register) (m tick : ℕ) where
@@ -159,46 +160,46 @@ module _ (r : Register) (m tick : ℕ) where
       go (Booked row) is = absurd (none_such ((as_seen is).seen_by.passed.0 refl))
       go NoMachine is = as_seen is
 
-  module _ (valid : Valid r) (is_machine : IsMachine r.setup m) where
-    sees_idle : ((row : Row) → Memᴰ row (held valid) → RunsAt m tick row → ⊥) → Looks r m tick Idle
+  module _ {a : Inside} (of : FieldsOf r a) (is_machine : IsMachine r.setup m) where
+    sees_idle : ((row : Row) → Memᴰ row r.state.rows → RunsAt m tick row → ⊥) → Looks r m tick Idle
     sees_idle none_runs_there = as_seen (saw.idle.1 (is_machine, none_runs_there))
 
     -- past the horizon every row has ended
     pub sees_past : horizon < tick → Looks r m tick Idle
-    sees_past past = sees_idle (λ row listed runs. let ends = (valid.bounded.rows row listed).ends in omega (arith, runs.within.1))
+    sees_past past = sees_idle (λ row listed runs. let ends = (of.timetable.bounded.rows row listed).ends in omega (arith, runs.within.1))
 
     -- a row on the machine at the tick is the one seen
-    sees_row : (row : Row) → Memᴰ row (held valid) → RunsAt m tick row → Looks r m tick (Booked row)
+    sees_row : (row : Row) → Memᴰ row r.state.rows → RunsAt m tick row → Looks r m tick (Booked row)
     sees_row row listed runs = go (look r.setup (view (state_of r)) m tick) refl
       where
         go : (seen : Seen) → look r.setup (view (state_of r)) m tick ≡ seen → Looks r m tick (Booked row)
         go Idle is = absurd ((saw.idle.0 is).1 row listed runs)
         go (Booked other) is =
             let seen = (as_seen is).seen_by.sees other refl in
-            as_seen (is ∙ ap Booked (one_runs (held valid) valid.bounded.apart seen.0 listed seen.1 runs))
+            as_seen (is ∙ ap Booked (one_runs r.state.rows of.timetable.bounded.apart seen.0 listed seen.1 runs))
         go NoMachine is = absurd ((as_seen is).seen_by.no_machine.0 refl is_machine)
 
-    module _ {at : ℕ} (first : FirstAfter r.ends r.status.count (place_of m tick) at) where
+    module _ {at : ℕ} (first : FirstAfter a.ends a.status.count (place_of m tick) at) where
       -- no span ends after the tick, or the first that does begins later
-      pub sees_none : (at < r.status.count → place_of m tick < get_or r.begins at 0) → Looks r m tick Idle
-      sees_none later = sees_idle (none_runs (held_drawn valid) first later)
+      pub sees_none : (at < a.status.count → place_of m tick < get_or a.begins at 0) → Looks r m tick Idle
+      sees_none later = sees_idle (none_runs (held_drawn of) first later)
 
       -- it begins at the tick or before: its row is made of its figures
       pub sees_its_row :
-          tick ≤ horizon → (below : at < r.status.count) → get_or r.begins at 0 ≤ place_of m tick →
-          {note : Note} (noted : note ≡ nth_note r.notes at) {row : Row} → RowIs (entry_there valid below noted) (get_or r.jobs at 0) row →
+          tick ≤ horizon → (below : at < a.status.count) → get_or a.begins at 0 ≤ place_of m tick →
+          {note : Note} (noted : note ≡ nth_note a.notes at) {row : Row} → RowIs (entry_there of below noted) (get_or a.jobs at 0) row →
           Looks r m tick (Booked row)
       sees_its_row early below begun noted is =
-          let has : HasMachine m = record { first = is_machine.first; last = omega (arith, is_machine.last, valid.sound.room) } in
+          let has : HasMachine m = record { first = is_machine.first; last = omega (arith, is_machine.last, of.timetable.sound.room) } in
           rw
-          (row_is valid below noted is)
+          (row_is of below noted is)
           (sees_row
-          (its_row valid below)
-          (its_row_held valid below)
+          (its_row of below)
+          (its_row_held of below)
           (row_runs
-          (its_row valid below)
+          (its_row of below)
           has
           early
-          (in_range_drawable valid.sound (its_row_range valid below))
-          (omega (arith, begin_there valid below))
-          (omega (arith, end_there valid below, first.after at (omega arith) below))))
+          (in_range_drawable of.timetable.sound (its_row_range of below))
+          (omega (arith, begin_there of below))
+          (omega (arith, end_there of below, first.after at (omega arith) below))))

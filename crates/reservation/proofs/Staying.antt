@@ -6,8 +6,8 @@ use mathlib.Core.List.{List, [], ◌∷◌, ◌++◌, append-nil, Memᴰ}
 use Prim.Native.Nat.{ℕ, ◌+◌, ◌≤◌, ◌<◌}
 use native.Mathlib.Omega.{arith}
 use native.Mathlib.Numerals.{add-one}
-use lib.ListN.{length, get_or, take, set, replicate, length-append, get_or-append}
-use lib.Seq.{take-suc, take_all}
+use lib.ListN.{length, get_or, take, set, length-append}
+use lib.Seq.{take-suc, take-append_seam}
 use borrow.Author.Tests.{eqb-true, eq-eqb}
 use Rattle.rules.specs.declared.Row.{Row}
 use Rattle.rules.specs.Sequences.{keep, cons_if, any_of}
@@ -19,7 +19,7 @@ use Rattle.timeline.proofs.Line.{line_long}
 use Rattle.timeline.proofs.Columns.{column_long}
 use Rattle.timetable.specs.Marks.{AskJobs, HeldIs, WholeJobs}
 use Rattle.timetable.proofs.Lines.{any_line}
-use Rattle.reservation.specs.Parts.{Staying, AskStay, StayIs}
+use Rattle.reservation.specs.Parts.{Staying, AskStay}
 use Rattle.reservation.proofs.Slotted.{slot_next}
 
 abbrev stay : (Row → Bool) → List Row → List Row
@@ -44,14 +44,14 @@ stays_with_its_job leaving rows whole {row} listed =
 
 -- after i rows
 pub record StayedSo (held : List Row) (count : ℕ) (jobs : List ℕ) (left : ℕ) (rows : List Row) (kept i : ℕ) : Type 0 where
-  pub within : i ≤ count
   pub kept_few : kept ≤ i
   pub kept_is : (all : List Row) (leaving : Row → Bool) → Staying all leaving held count jobs left → kept ≡ length (stay leaving (take i all))
   pub rows_are : (all : List Row) (leaving : Row → Bool) → Staying all leaving held count jobs left → rows ≡ slots row_limit (stay leaving (take i all))
 
 module _ {held : List Row} {count : ℕ} {jobs : List ℕ} {left : ℕ} where
-  pub count_fits : AskStay held count jobs left → count ≤ row_limit
-  count_fits ask = omega (arith, ask.staying.count_is, ask.staying.few)
+  -- the slots up to the count are the rows
+  listed : (all : List Row) (leaving : Row → Bool) → Staying all leaving held count jobs left → take count held ≡ all
+  listed all leaving staying = rw (staying.count_is, staying.held_is) (take-append_seam all _)
 
   pub jobs_asked : AskStay held count jobs left → AskJobs jobs left
   jobs_asked ask =
@@ -65,75 +65,56 @@ module _ {held : List Row} {count : ℕ} {jobs : List ℕ} {left : ℕ} where
         few = omega (arith, staying.left_is);
       }
 
-  pub stayed_none : StayedSo held count jobs left (replicate row_limit no_row) 0 0
-  stayed_none = record { within = omega arith; kept_few = omega arith; kept_is = λ all leaving staying. refl; rows_are = λ all leaving staying. refl }
-
   -- One row more.
   module _
-      {rows : List Row} {kept i : ℕ} (sofar : StayedSo held count jobs left rows kept i) (below : i < count)
-      {found : Bool} (is : HeldIs jobs left (get_or held i no_row).job found) where
-    module _ (all : List Row) (leaving : Row → Bool) (staying : Staying all leaving held count jobs left) where
-      there : i < length all
-      there = omega (arith, staying.count_is)
-
-      row_there : get_or held i no_row ≡ get_or all i no_row
-      row_there = ap (λ l. get_or l i no_row) staying.held_is ∙ get_or-append all _ no_row i there
-
-      found_is : found ≡ not (leaving (get_or all i no_row))
-      found_is =
-          let here = stay leaving all in
-          is (line_of here) (line_long here ∙ sym staying.left_is) staying.jobs_are
-          ∙ any_line (of_job (get_or held i no_row).job) here
-          ∙ ap (λ row. any_of (of_job row.job) here) row_there
-          ∙ stays_with_its_job leaving all staying.whole (get_or_mem all i no_row there)
-
-      one_more : stay leaving (take (i + 1) all) ≡ stay leaving (take i all) ++ cons_if found (get_or all i no_row) []
-      one_more =
-          ap (λ n. stay leaving (take n all)) (add-one i)
-          ∙ ap (stay leaving) (take-suc all i no_row there)
-          ∙ keep_append (λ row. not (leaving row)) (take i all) (get_or all i no_row ∷ [])
-          ∙ ap (λ t. stay leaving (take i all) ++ cons_if t (get_or all i no_row) []) (sym found_is)
+      {rows : List Row} {kept i : ℕ} (sofar : StayedSo held count jobs left rows kept i) (below : i < length (take count held))
+      {found : Bool} (is : HeldIs jobs left (get_or (take count held) i no_row).job found) where
+    -- the row at its index, if it stays
+    one_more :
+        (all : List Row) (leaving : Row → Bool) → Staying all leaving held count jobs left →
+        stay leaving (take (i + 1) all) ≡ stay leaving (take i all) ++ cons_if found (get_or (take count held) i no_row) []
+    one_more all leaving staying =
+        let same = listed all leaving staying in
+        let here = stay leaving all in
+        let there : i < length all = omega (arith, ap length same) in
+        let found_is : found ≡ not (leaving (get_or all i no_row))
+        = is (line_of here) (line_long here ∙ sym staying.left_is) staying.jobs_are
+        ∙ any_line (of_job (get_or (take count held) i no_row).job) here
+        ∙ ap (λ l. any_of (of_job (get_or l i no_row).job) here) same
+        ∙ stays_with_its_job leaving all staying.whole (get_or_mem all i no_row there) in
+        rw (same, found_is)
+        (ap (λ n. stay leaving (take n all)) (add-one i)
+        ∙ ap (stay leaving) (take-suc all i no_row there)
+        ∙ keep_append (λ row. not (leaving row)) (take i all) (get_or all i no_row ∷ []))
 
     pub stayed_gone : found ≡ false → StayedSo held count jobs left rows kept (i + 1)
     stayed_gone e =
         let same : (all : List Row) (leaving : Row → Bool) → Staying all leaving held count jobs left →
         stay leaving (take i all) ≡ stay leaving (take (i + 1) all)
-        = λ all leaving staying.
-        sym (one_more all leaving staying ∙ ap (λ t. stay leaving (take i all) ++ cons_if t (get_or all i no_row) []) e ∙ append-nil (stay leaving (take i all)))
-        in
+        = λ all leaving staying. sym (rw e at one_more all leaving staying ∙ append-nil (stay leaving (take i all))) in
         record {
-          within = omega arith;
           kept_few = omega (arith, sofar.kept_few);
           kept_is = λ all leaving staying. sofar.kept_is all leaving staying ∙ ap length (same all leaving staying);
           rows_are = λ all leaving staying. sofar.rows_are all leaving staying ∙ ap (slots row_limit) (same all leaving staying);
         }
 
-    pub stayed_more : count ≤ row_limit → found ≡ true → StayedSo held count jobs left (set rows kept (get_or held i no_row)) (kept + 1) (i + 1)
-    stayed_more room e =
+    pub stayed_more : found ≡ true → StayedSo held count jobs left (set rows kept (get_or (take count held) i no_row)) (kept + 1) (i + 1)
+    stayed_more e =
+        let row = get_or (take count held) i no_row in
         let next : (all : List Row) (leaving : Row → Bool) → Staying all leaving held count jobs left →
-        stay leaving (take i all) ++ (get_or held i no_row ∷ []) ≡ stay leaving (take (i + 1) all)
-        = λ all leaving staying.
-        sym
-        (one_more all leaving staying
-        ∙ ap (λ t. stay leaving (take i all) ++ cons_if t (get_or all i no_row) []) e
-        ∙ ap (λ row. stay leaving (take i all) ++ (row ∷ [])) (sym (row_there all leaving staying)))
-        in
+        stay leaving (take i all) ++ (row ∷ []) ≡ stay leaving (take (i + 1) all)
+        = λ all leaving staying. sym (rw e at one_more all leaving staying) in
         record {
-          within = omega arith;
           kept_few = omega (arith, sofar.kept_few);
           kept_is =
               λ all leaving staying.
               ap (λ n. n + 1) (sofar.kept_is all leaving staying)
-              ∙ sym (length-append (stay leaving (take i all)) (get_or held i no_row ∷ []))
+              ∙ sym (length-append (stay leaving (take i all)) (row ∷ []))
               ∙ ap length (next all leaving staying);
           rows_are =
               λ all leaving staying.
               let kept_is = sofar.kept_is all leaving staying in
-              ap (λ l. set l kept (get_or held i no_row)) (sofar.rows_are all leaving staying)
-              ∙ slot_next row_limit (stay leaving (take i all)) (get_or held i no_row) kept_is (omega (arith, sofar.kept_few))
+              ap (λ l. set l kept row) (sofar.rows_are all leaving staying)
+              ∙ slot_next row_limit (stay leaving (take i all)) row kept_is (omega (arith, sofar.kept_few, ap length (listed all leaving staying), staying.few))
               ∙ ap (slots row_limit) (next all leaving staying);
         }
-
-  pub stayed_all : {rows : List Row} {kept i : ℕ} → StayedSo held count jobs left rows kept i → count ≤ i → StayIs held count jobs left rows
-  stayed_all {i = i} sofar end = λ all leaving staying.
-      sofar.rows_are all leaving staying ∙ ap (λ l. slots row_limit (stay leaving l)) (take_all i all (omega (arith, staying.count_is)))

@@ -7,13 +7,12 @@ use Rattle.rules.specs.Refusals.{Call, submits, withdraws, advances, step, look}
 use Rattle.rules.specs.Demands.{SeenBy}
 use Rattle.reservation.specs.declared.Register.{Register}
 use Rattle.reservation.specs.declared.Reply.{Reply}
-use Rattle.reservation.specs.Registers.{state_of, register_of, Valid}
+use Rattle.reservation.specs.Registers.{state_of, register_of}
 
 -- A call: the answer is the rules', and the register left is the one that stands for the state that the rules leave.
 pub record Steps (r : Register) (c : Call) (result : Reply) : Type 0 where
   pub answer_is : result.answer ≡ (step r.setup (state_of r) c).answer
   pub left_is : result.register ≡ register_of r.setup (step r.setup (state_of r) c).left
-  pub valid : Valid result.register
 
 abbrev pub Submits : Register → Job → Reply → Type 0
 Submits r j result = Steps r (submits j) result

@@ -15,7 +15,7 @@ use Rattle.timetable.specs.Marks.{JobsOf, WholeJobs}
 use Rattle.timetable.specs.Timetables.{Goes}
 use Rattle.reservation.specs.declared.Register.{Register}
 use Rattle.reservation.specs.declared.Reply.{Reply}
-use Rattle.reservation.specs.Registers.{state_of, Valid}
+use Rattle.reservation.specs.Registers.{state_of}
 use Rattle.reservation.specs.Calls.{Steps}
 
 -- Submissions.
@@ -31,10 +31,6 @@ pub record CountsAnswer (number tasks messages r : ℕ) : Type 0 where
       (r ≡ 0 → ⊥) → (s : Setup) (v : View) (j : Job) → j.number ≡ number → j.taskcount ≡ tasks → j.messagecount ≡ messages →
       submit_answer s v j ≡ refusal r 0
   pub fit : r ≡ 0 → CountsFit tasks messages
-
-pub record AskListed (r : Register) (j : Job) : Type 0 where
-  pub valid : Valid r
-  pub counts : CountsFit j.taskcount j.messagecount
 
 -- the slots hold rows, and the figures of new rows of a job are lent
 pub record Joining (s : Setup) (rows new : List Row) (held : List Row) (count : ℕ) (own : List ℕ) (more job : ℕ) : Type 0 where
@@ -68,7 +64,6 @@ pub record Leaves (st left : State) : Type 0 where
 
 -- a call over the timetable, with which rows leave
 pub record AskLeft (r : Register) (begins ends jobs notes : List ℕ) (outcome : Outcome) : Type 0 where
-  pub valid : Valid r
   pub call : Call
   pub goes : Goes r.setup (state_of r) call begins ends jobs notes outcome
   pub leaves : Leaves (state_of r) (step r.setup (state_of r) call).left

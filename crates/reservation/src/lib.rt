@@ -8,13 +8,15 @@ mod rows;
 mod sight;
 mod submission;
 
-ghost use Rattle.std.specs.Prelude.{◌≡◌};
-ghost use Rattle.rules.specs.Words.{fresh, setup_by_default};
-ghost use Rattle.reservation.specs.Registers.{Valid, register_of};
+ghost use Rattle.std.specs.Prelude.{◌≡◌, length};
+ghost use Rattle.rules.specs.Words.{fresh, setup_by_default, row_limit};
+ghost use Rattle.timeline.specs.RowLine.{slots};
+ghost use Rattle.reservation.specs.Registers.{register_of};
 
 use rules::rows::blank;
 use rules::tables::default_setup;
 use rules::{Answer, HORIZON, MESSAGES, ROWS, Row, Setup, TASKS};
+use std::marker::Model;
 use timeline::SPANS;
 use timeline::notes::NOTES;
 use timetable::{NEVER, Status};
@@ -31,6 +33,25 @@ pub struct Register {
     ends: [u64; SPANS],
     jobs: [u16; SPANS],
     notes: [u64; NOTES],
+}
+
+// Clauses see what a register was opened with and the state of the rules that it stands for.
+impl Model for Register {
+    ghost use Rattle.reservation.specs.Standing.{Standing};
+
+    ghost Value = { Standing };
+
+    ghost use Rattle.reservation.specs.Fields.{standing_of, fields_of, Kept};
+
+    ghost view = { standing_of };
+
+    ghost invariant = { Kept };
+
+    ghost inverse = { fields_of };
+
+    ghost use Rattle.std.proofs.Common.{sym};
+
+    ghost inverse_ok = { λ a kept. sym kept.kept };
 }
 
 // The answer to a call, and the register that it leaves. A withdrawal and a clock move answer a number alone: the other figures are 0.
@@ -51,20 +72,17 @@ impl Register {
 
     // A fresh register: clock 0, no rows and total 0.
     pub fn new() -> Self
-        ensures value { result ≡ register_of setup_by_default fresh }
-        ensures valid { Valid result }
+        ensures { result ≡ register_of setup_by_default fresh }
     {
-        let setup = default_setup();
-        let rows = [blank(); Self::ROWS];
         Self {
-            setup: setup,
+            setup: default_setup(),
             status: Status {
                 clock: 0,
                 count: 0,
                 total: 0,
                 soonest: NEVER,
             },
-            rows: rows,
+            rows: [blank(); Self::ROWS],
             begins: [0; SPANS],
             ends: [0; SPANS],
             jobs: [0; SPANS],
@@ -73,30 +91,27 @@ impl Register {
     }
 
     pub fn clock(self) -> u64
-        ensures { result ≡ self.status.clock }
+        ensures { result ≡ self.state.calendar.clock }
     {
-        let status = self.status;
-        status.clock
+        self.status.clock
     }
 
     pub fn total(self) -> u64
-        ensures { result ≡ self.status.total }
+        ensures { result ≡ self.state.total }
     {
-        let status = self.status;
-        status.total
+        self.status.total
     }
 
     // How many rows are held.
     pub fn count(self) -> usize
-        ensures { result ≡ self.status.count }
+        ensures { result ≡ length self.state.rows }
     {
-        let status = self.status;
-        status.count
+        self.status.count
     }
 
     // The slots of all rows; those past the count are blank.
     pub fn rows(self) -> [Row; ROWS]
-        ensures { result ≡ self.rows }
+        ensures { result ≡ slots row_limit self.state.rows }
     {
         self.rows
     }

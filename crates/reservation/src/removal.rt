@@ -1,10 +1,8 @@
 // Withdrawals and clock moves: rows leave, and the others stay in the order of their admission.
-ghost use Rattle.reservation.specs.Registers.{Valid};
 ghost use Rattle.reservation.specs.Calls.{Withdraws, Advances};
 ghost use Rattle.reservation.specs.Parts.{AskLeft, LeftIs};
 
 use crate::rows::still_held;
-use crate::submission::reply;
 use crate::{Register, Reply};
 use timeline::SPANS;
 use timeline::notes::NOTES;
@@ -24,43 +22,41 @@ impl Register {
         requires { AskLeft self begins ends jobs notes outcome }
         ensures { LeftIs self begins ends jobs notes outcome result }
     {
-        let answer = outcome.answer;
+        let Outcome { answer, status } = outcome;
         if answer.number != 0 {
-            return reply(answer, self);
+            return Reply {
+                answer,
+                register: self,
+            };
         }
-        let left = outcome.status;
-        let status = self.status;
-        let setup = self.setup;
-        let held = self.rows;
-        let rows = still_held(held, status.count, &jobs, left.count);
+        let rows = still_held(self.rows, self.status.count, &jobs, status.count);
         let register = Register {
-            setup: setup,
-            status: left,
-            rows: rows,
-            begins: begins,
-            ends: ends,
-            jobs: jobs,
-            notes: notes,
+            setup: self.setup,
+            status,
+            rows,
+            begins,
+            ends,
+            jobs,
+            notes,
         };
-        reply(answer, register)
+        Reply { answer, register }
     }
 
-    // A job that is held and has not begun leaves.
+    // A job that is held and has not begun leaves. A clock move lends the columns alike: one function for both would take the step with a contract of its own,
+    // and is no plainer.
     pub fn withdraw(self, number: u64) -> Reply
-        requires { Valid self }
         ensures { Withdraws self number result }
     {
         let mut begins = self.begins;
         let mut ends = self.ends;
         let mut jobs = self.jobs;
         let mut notes = self.notes;
-        let status = self.status;
         let outcome = withdraw(
             &mut begins,
             &mut ends,
             &mut jobs,
             &mut notes,
-            status,
+            self.status,
             number,
         );
         self.left_after(begins, ends, jobs, notes, outcome)
@@ -68,15 +64,20 @@ impl Register {
 
     // The clock is set, and jobs that have ended leave.
     pub fn advance(self, tick: u64) -> Reply
-        requires { Valid self }
         ensures { Advances self tick result }
     {
         let mut begins = self.begins;
         let mut ends = self.ends;
         let mut jobs = self.jobs;
         let mut notes = self.notes;
-        let status = self.status;
-        let outcome = advance(&mut begins, &mut ends, &mut jobs, &mut notes, status, tick);
+        let outcome = advance(
+            &mut begins,
+            &mut ends,
+            &mut jobs,
+            &mut notes,
+            self.status,
+            tick,
+        );
         self.left_after(begins, ends, jobs, notes, outcome)
     }
 }

@@ -18,10 +18,8 @@ pub fn with_rows(
     ensures { MoreIs held count own.now more job result }
 {
     let mut rows = held;
-    let mut i: usize = 0;
-    while i < more {
+    for i in 0..more {
         rows[count + i] = row_of(entry_at(own, i), job);
-        i += 1;
     }
     rows
 }
@@ -32,15 +30,12 @@ pub fn still_held(held: [Row; ROWS], count: usize, jobs: &[u16], left: usize) ->
     ensures { StayIs held count jobs.now left result }
 {
     let mut rows = [blank(); ROWS];
-    let mut kept: usize = 0;
-    let mut i: usize = 0;
-    while i < count {
-        let row = held[i];
+    let mut kept = 0;
+    for row in &held[..count] {
         if is_held(jobs, left, row.job) {
-            rows[kept] = row;
+            rows[kept] = *row;
             kept += 1;
         }
-        i += 1;
     }
     rows
 }

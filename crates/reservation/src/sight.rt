@@ -1,5 +1,4 @@
 // Look: what stands on a machine at a tick. It changes nothing.
-ghost use Rattle.reservation.specs.Registers.{Valid};
 ghost use Rattle.reservation.specs.Calls.{Looks};
 
 use crate::Register;
@@ -12,36 +11,27 @@ use timeline::search::first_after;
 impl Register {
     // The first span on the timeline that ends after the tick holds it, or none does.
     pub fn look(self, machine: u64, tick: u64) -> Seen
-        requires { Valid self }
         ensures { Looks self machine tick result }
     {
-        let setup = self.setup;
-        let table = setup.table;
-        if machine < 1 {
-            return Seen::NoMachine;
-        }
-        if table.machines < machine {
+        if machine < 1 || self.setup.table.machines < machine {
             return Seen::NoMachine;
         }
         if HORIZON < tick {
             return Seen::Idle;
         }
         let place = machine * TICKS + tick;
-        let status = self.status;
+        let count = self.status.count;
+        // The columns are copied alone: a loan of a field would copy the whole register.
         let ends = self.ends;
-        let at = first_after(&ends, status.count, place);
-        if at == status.count {
-            return Seen::Idle;
-        }
-        let begin = self.begins[at];
-        if place < begin {
+        let at = first_after(&ends, count, place);
+        if at == count || place < self.begins[at] {
             return Seen::Idle;
         }
         let notes = self.notes;
         let note = note_at(&notes, at);
         let entry = Entry {
             at: 0,
-            begin: begin,
+            begin: self.begins[at],
             end: ends[at],
             label: note.label,
             cost: note.cost,

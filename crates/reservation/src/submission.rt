@@ -1,16 +1,15 @@
 // Submissions: the tests in their order, then the rows of the job go after the held ones.
-ghost use Rattle.std.specs.Prelude.{◌≡◌};
-ghost use Rattle.reservation.specs.Registers.{Valid};
 ghost use Rattle.reservation.specs.Calls.{Submits};
-ghost use Rattle.reservation.specs.Parts.{CountsAnswer, AskListed};
+ghost use Rattle.reservation.specs.Parts.{CountsAnswer, CountsFit};
 
 use crate::rows::with_rows;
 use crate::{Register, Reply};
 use admission::submission::submit;
 use figures::lending::table_figures;
 use placement::own::OWNED;
-use rules::{Answer, Job, LAST_JOB};
+use rules::{Job, LAST_JOB};
 use texts::job::{FIGURES, job_figures};
+use timetable::Outcome;
 use timetable::answers::refusal;
 
 // Refusals 1 and 2, where the counts are too large for a row of figures; else 0, and all tests are left to admission.
@@ -20,32 +19,20 @@ fn counted(number: u64, tasks: u64, messages: u64) -> u64
     if tasks <= Register::TASKS as u64 && messages <= Register::MESSAGES as u64 {
         return 0;
     }
-    if number < 1 {
-        return 1;
-    }
-    if LAST_JOB < number {
-        return 1;
-    }
-    2
-}
-
-pub fn reply(answer: Answer, register: Register) -> Reply
-    ensures { result ≡ record { answer = answer; register = register } }
-{
-    Reply {
-        answer: answer,
-        register: register,
+    if (1..=LAST_JOB).contains(&number) {
+        2
+    } else {
+        1
     }
 }
 
 impl Register {
     // A job whose counts leave room for it in a row of figures.
     fn submit_listed(self, job: Job) -> Reply
-        requires { AskListed self job }
+        requires { CountsFit job.taskcount job.messagecount }
         ensures { Submits self job result }
     {
-        let setup = self.setup;
-        let table = table_figures(setup);
+        let table = table_figures(self.setup);
         let mut row = [0; FIGURES];
         job_figures(&mut row, table[0], job);
         let mut own = [0; OWNED];
@@ -53,7 +40,6 @@ impl Register {
         let mut ends = self.ends;
         let mut jobs = self.jobs;
         let mut notes = self.notes;
-        let status = self.status;
         let outcome = submit(
             &table,
             &row,
@@ -62,35 +48,38 @@ impl Register {
             &mut ends,
             &mut jobs,
             &mut notes,
-            status,
+            self.status,
         );
-        let answer = outcome.answer;
+        let Outcome { answer, status } = outcome;
         if answer.number != 0 {
-            return reply(answer, self);
+            return Reply {
+                answer,
+                register: self,
+            };
         }
-        let left = outcome.status;
-        let held = self.rows;
         let more = answer.rows as usize;
-        let rows = with_rows(held, status.count, &own, more, job.number as u16);
+        let rows = with_rows(self.rows, self.status.count, &own, more, job.number as u16);
         let register = Register {
-            setup: setup,
-            status: left,
-            rows: rows,
-            begins: begins,
-            ends: ends,
-            jobs: jobs,
-            notes: notes,
+            setup: self.setup,
+            status,
+            rows,
+            begins,
+            ends,
+            jobs,
+            notes,
         };
-        reply(answer, register)
+        Reply { answer, register }
     }
 
     pub fn submit(self, job: Job) -> Reply
-        requires { Valid self }
         ensures { Submits self job result }
     {
         let number = counted(job.number, job.taskcount, job.messagecount);
         if number != 0 {
-            return reply(refusal(number, 0), self);
+            return Reply {
+                answer: refusal(number, 0),
+                register: self,
+            };
         }
         self.submit_listed(job)
     }

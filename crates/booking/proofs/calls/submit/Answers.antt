@@ -1,5 +1,5 @@
 use Rattle.reservation.proofs.Demands.{demand_1_of_code}
 use Rattle.booking.proofs.calls.submit.Goals as goal
 
-pub check_refused-requires : goal.check_refused-requires
-check_refused-requires c = (demand_1_of_code c.requires c.submit-reply.ensures).untouched
+pub answered-requires : goal.answered-requires
+answered-requires c = (demand_1_of_code c.submit.ensures).untouched

@@ -1,5 +1,5 @@
 -- `Register::new` meets its contract: the fresh register keeps an empty timeline and no end.
-use mathlib.Core.Path.{◌≡◌, refl, sym, ap₂, ◌∙◌, subst}
+use mathlib.Core.Path.{◌≡◌, refl, ap}
 use Prim.Native.Nat.{◌*◌}
 use lib.ListN.{replicate}
 use Rattle.rules.specs.Words.{fresh, setup_by_default, row_limit, held_by}
@@ -11,29 +11,40 @@ use Rattle.rules.proofs.Bounds.{bounded_fresh}
 use Rattle.rules.proofs.DefaultTables.{default_sound}
 use Rattle.timeline.specs.RowLine.{spans_room, note_size, line_onto}
 use Rattle.timetable.specs.Derived.{least_of, most_of, never}
-use Rattle.reservation.specs.declared.Register.{Register}
-use Rattle.reservation.specs.Registers.{register_of, Valid}
-use Rattle.reservation.proofs.Values.{register_valid}
+use Rattle.reservation.specs.Registers.{register_of}
+use Rattle.reservation.proofs.Values.{FieldsOf, fields_stand, fields_kept}
 use Rattle.reservation.proofs.Register.new.Goals as goal
 
 -- what the code makes of the tables and the blank row
-abbrev made : Setup → Row → Register
-made s b = record {
-  setup = s;
-  status = record { clock = 0; count = 0; total = 0; soonest = never };
-  rows = replicate row_limit b;
-  begins = replicate spans_room 0;
-  ends = replicate spans_room 0;
-  jobs = replicate spans_room 0;
-  notes = replicate (spans_room * note_size) 0;
+fresh_fields : {s : Setup} {row : Row} → s ≡ setup_by_default → row ≡ no_row →
+    FieldsOf
+    (register_of setup_by_default fresh)
+    (record {
+      setup = s;
+      status = record { clock = 0; count = 0; total = 0; soonest = never };
+      rows = replicate row_limit row;
+      begins = replicate spans_room 0;
+      ends = replicate spans_room 0;
+      jobs = replicate spans_room 0;
+      notes = replicate (spans_room * note_size) 0;
+    })
+unfolding line_onto least_of most_of holder_label held_by
+fresh_fields setup_is blank = record {
+  setup_is = setup_is;
+  timetable =
+      record {
+        sound = default_sound;
+        bounded = bounded_fresh setup_by_default;
+        spans = record { begins_are = refl; ends_are = refl };
+        jobs_are = refl;
+        notes_are = refl;
+        status_is = refl;
+      };
+  rows_are = ap (replicate row_limit) blank;
 }
 
-made_fresh : made setup_by_default no_row ≡ register_of setup_by_default fresh
-unfolding line_onto least_of most_of holder_label held_by
-made_fresh = refl
+pub invariant_of-result : goal.invariant_of-result
+invariant_of-result c = fields_kept (fresh_fields c.default_setup.ensures c.blank.ensures)
 
 pub returns : goal.returns
-returns c =
-    let is : made c.default_setup-setup.result c.blank-rows.result ≡ register_of setup_by_default fresh
-    = ap₂ made c.default_setup-setup.ensures c.blank-rows.ensures ∙ made_fresh in
-    record { value = is; valid = subst Valid (sym is) (register_valid setup_by_default fresh default_sound (bounded_fresh setup_by_default)) }
+returns c = fields_stand (fresh_fields c.default_setup.ensures c.blank.ensures)

@@ -16,14 +16,14 @@ import sys
 import tempfile
 
 MAIN = """script::run_calls script::calls::called script::acts::next_act script::replies::put_reply script::listing::put_listing
- script::listing::put_rows admission::submission::submit admission::submission::tested admission::submission::judged
- admission::submission::join timetable::removal::withdraw timetable::removal::advance placement::place::place drcd::choice::choose
- drcd::trial::attempt drcd::trial::try_inputs placement::append::append drcd::order::next_ready timeline::search::least_free
- timeline::beside::least_beside timeline::insertion::insert_span timeline::removal::take_out screening::screened
- texts::forms::read_form lines::line::read_line""".split()
+ script::listing::put_rows admission::submit admission::tested admission::judged admission::join
+ timetable::Timetable::withdraw timetable::Timetable::advance timetable::Timetable::take_out placement::place::place
+ drcd::choice::choose drcd::trial::attempt drcd::trial::try_inputs placement::append::append drcd::order::next_ready
+ timeline::line::Timeline::least_free timeline::line::Timeline::least_beside timeline::line::Timeline::insert
+ screening::screened texts::forms::read_form lines::line::read_line""".split()
 
 COMPILER = "REGISTER_BENCH_COMPILER"  # the variable that tells this file where the compiler is
-HEAD = re.compile(r'(?m)^(define .*?@"?([\w:]+)"?\(.*\)) (.*\{)$')
+HEAD = re.compile(r'(?m)^(define .*?@(?:"([^"\n]+)"|([\w.]+))\(.*\)) (.*\{)$')
 
 
 def marked(code):
@@ -31,10 +31,11 @@ def marked(code):
     found = set()
 
     def mark(head):
-        if head[2] not in MAIN:
+        name = (head[2] or head[3]).split("::<")[0]  # of a generic function each instance
+        if name not in MAIN:
             return head[0]
-        found.add(head[2])
-        return f"{head[1]} noinline {head[3]}"
+        found.add(name)
+        return f"{head[1]} noinline {head[4]}"
 
     code = HEAD.sub(mark, code)
     missing = [name for name in MAIN if name not in found]

@@ -17,7 +17,7 @@
  * - Calls may run at the same time, in threads and in signal handlers.
  * - The library has no writable data of its own, so no call sees another.
  * - A call always returns. It leaves errno alone, locks nothing, allocates nothing.
- * - It makes no system call. It calls memcpy and memset, and nothing else.
+ * - It makes no system call. It calls memcpy, memmove and memset, and nothing else.
  * - The library has no unwind tables. No exception may pass through a call.
  * - A thread must not be cancelled asynchronously while it is in a call.
  * - The stack must have the bytes left that the function's comment names.

@@ -1,78 +1,71 @@
 -- The numbers and notes of a job's own rows put where their spans went, row by row: the columns are those of the rows held and of the first so many of its own.
 use mathlib.Core.Path.{◌≡◌, refl, sym, ap, ◌∙◌, subst}
 use mathlib.Core.List.{List, Memᴰ}
-use Prim.Native.Nat.{ℕ, ◌+◌, ◌*◌, ◌≤◌, ◌<◌}
+use Prim.Native.Nat.{ℕ, ◌+◌, ◌≤◌, ◌<◌}
 use native.Mathlib.Omega.{arith}
 use lib.ListN.{length, get_or}
 use Rattle.rules.specs.declared.Row.{Row}
-use Rattle.rules.specs.Codes.{holder_label}
 use Rattle.rules.specs.Placing.{no_row}
 use Rattle.rules.proofs.Sequences.{get_or_mem}
 use Rattle.timeline.specs.declared.notes.Note.{Note}
-use Rattle.timeline.specs.RowLine.{spans_room, note_size, line_of, column, notes_of, GoesAt, AskInsert, InsertedAt}
-use Rattle.timeline.specs.Notes.{AskInsertNote, NoteInserted}
-use Rattle.timeline.proofs.Columns.{column_inserted, noted_of, notes_inserted}
+use Rattle.timeline.specs.RowLine.{spans_room, line_of, column, note_of, notes_of, GoesAt, AskInsert, InsertedAt}
+use Rattle.timeline.proofs.ColumnLaws.{column_inserted}
 use Rattle.placement.specs.declared.own.Entry.{Entry}
 use Rattle.placement.specs.Own.{nth_entry, entry_for, OwnRows}
+use Rattle.timetable.specs.declared.Timetable.{Timetable}
 use Rattle.timetable.specs.Marks.{JobsOf}
 use Rattle.admission.specs.Submitted.{AskJoin, JoinedIs}
 use Rattle.admission.proofs.Owning.{rows_to, rows_none, rows_all, line_to_long, line_to_more}
-
--- the rows held and the new ones, whose figures are lent
-pub record Joins (own : List ℕ) (held count : ℕ) (rows new : List Row) : Type 0 where
-  pub held_is : held ≡ length rows
-  pub count_is : count ≡ length new
-  pub own_is : OwnRows rows new own
 
 abbrev Carry : List Row → (job : ℕ) → Type 0
 Carry new job = (row : Row) → Memᴰ row new → row.job ≡ job
 
 -- after i rows
-pub record Joining (jobs₀ notes₀ own : List ℕ) (held count job last : ℕ) (jobs notes : List ℕ) (i : ℕ) : Type 0 where
-  pub within : i ≤ count
-  pub jobs_long : length jobs ≡ spans_room
-  pub notes_long : length notes ≡ spans_room * note_size
+pub record Joining (t₀ : Timetable) (own : List Entry) (held job last : ℕ) (t : Timetable) (i : ℕ) : Type 0 where
+  pub beside : t ≡ record t₀ { jobs = t.jobs; notes = t.notes }
+  pub jobs_long : length t.jobs ≡ spans_room
+  pub notes_long : length t.notes ≡ spans_room
   pub jobs_are :
-      (rows new : List Row) → Joins own held count rows new → Carry new job → JobsOf (line_of rows) jobs₀ → JobsOf (line_of (rows_to rows new i)) jobs
+      (rows new : List Row) → held ≡ length rows → OwnRows rows new own → Carry new job →
+      JobsOf (line_of rows) t₀.jobs → JobsOf (line_of (rows_to rows new i)) t.jobs
   pub notes_are :
-      (rows new : List Row) (lasts : ℕ → ℕ) → Joins own held count rows new → Carry new job → lasts job ≡ last → notes₀ ≡ notes_of lasts (line_of rows) →
-      notes ≡ notes_of lasts (line_of (rows_to rows new i))
+      (rows new : List Row) (lasts : ℕ → ℕ) → held ≡ length rows → OwnRows rows new own → Carry new job →
+      lasts job ≡ last → t₀.notes ≡ notes_of lasts (line_of rows) → t.notes ≡ notes_of lasts (line_of (rows_to rows new i))
 
-module _ {jobs₀ notes₀ own : List ℕ} {held count job last : ℕ} (ask : AskJoin jobs₀ notes₀ own held count) where
-  pub joining_none : Joining jobs₀ notes₀ own held count job last jobs₀ notes₀ 0
-  joining_none = record {
-    within = omega arith;
-    jobs_long = ask.jobs_long;
+module _ {t₀ : Timetable} {own : List Entry} {held job last : ℕ} where
+  pub joining_none : AskJoin t₀ own held → length t₀.jobs ≡ spans_room → Joining t₀ own held job last t₀ 0
+  joining_none ask jobs_long = record {
+    beside = refl;
+    jobs_long = jobs_long;
     notes_long = ask.notes_long;
-    jobs_are = λ rows new joins carry is. subst (λ l. JobsOf (line_of l) jobs₀) (sym (rows_none rows new)) is;
-    notes_are = λ rows new lasts joins carry same is. subst (λ l. notes₀ ≡ notes_of lasts (line_of l)) (sym (rows_none rows new)) is;
+    jobs_are = λ rows new held_is own_is carry is. subst (λ l. JobsOf (line_of l) t₀.jobs) (sym (rows_none rows new)) is;
+    notes_are = λ rows new lasts held_is own_is carry same is. subst (λ l. t₀.notes ≡ notes_of lasts (line_of l)) (sym (rows_none rows new)) is;
   }
 
-  module _ {jobs notes : List ℕ} {i : ℕ} (so_far : Joining jobs₀ notes₀ own held count job last jobs notes i) where
-    pub joining_all : count ≤ i → JoinedIs jobs₀ notes₀ own held count job last jobs notes
-    joining_all over =
-        let most = so_far.within in
+  module _ {t : Timetable} {i : ℕ} (so_far : Joining t₀ own held job last t i) where
+    pub joining_all : {items : List Entry} → items ≡ own → i ≤ length items → length items ≤ i → JoinedIs t₀ own held job last t
+    joining_all lent most over =
+        let all : i ≡ length own = omega (arith, ap length lent) in
         record {
-          jobs_long = so_far.jobs_long;
-          notes_long = so_far.notes_long;
+          beside = so_far.beside;
           jobs_are =
-              λ rows new held_is count_is own_is carry is.
-              subst
-              (λ l. JobsOf (line_of l) jobs)
-              (rows_all rows new i (omega arith))
-              (so_far.jobs_are rows new (record { held_is = held_is; count_is = count_is; own_is = own_is }) carry is);
+              λ rows new held_is own_is carry is.
+              subst (λ l. JobsOf (line_of l) t.jobs) (rows_all rows new i (all ∙ own_is.long)) (so_far.jobs_are rows new held_is own_is carry is);
           notes_are =
-              λ rows new lasts held_is count_is own_is carry same is.
+              λ rows new lasts held_is own_is carry same is.
               subst
-              (λ l. notes ≡ notes_of lasts (line_of l))
-              (rows_all rows new i (omega arith))
-              (so_far.notes_are rows new lasts (record { held_is = held_is; count_is = count_is; own_is = own_is }) carry same is);
+              (λ l. t.notes ≡ notes_of lasts (line_of l))
+              (rows_all rows new i (all ∙ own_is.long))
+              (so_far.notes_are rows new lasts held_is own_is carry same is);
         }
 
-    -- the figures of the next row
-    module _ (more : i < count) {entry : Entry} (read : entry ≡ nth_entry own i) where
+    -- the next row, read from the slice that is lent
+    module _ (ask : AskJoin t₀ own held) {items : List Entry} (lent : items ≡ own) (more : i < length items) where
+      abbrev entry : Entry
+      entry = nth_entry items i
+
       -- the line before it, as long as the index says
-      module _ {rows new : List Row} (joins : Joins own held count rows new) where
+      module _ {rows new : List Row} (held_is : held ≡ length rows) (own_is : OwnRows rows new own) where
         abbrev row : Row
         row = get_or new i no_row
 
@@ -80,68 +73,75 @@ module _ {jobs₀ notes₀ own : List ℕ} {held count job last : ℕ} (ask : As
         line = line_of (rows_to rows new i)
 
         there : i < length new
-        there = let same = joins.count_is in omega arith
+        there = omega (arith, own_is.long, ap length lent)
 
         goes : GoesAt line row entry.at
-        goes = rw read (joins.own_is.goes i there)
+        goes = rw lent (own_is.goes i there)
 
         long : length line ≡ held + i
-        long = let same = joins.held_is in let n = there in omega (arith, line_to_long rows new i (omega arith))
+        long = omega (arith, there, line_to_long rows new i (omega (arith, there)))
 
         few : length line < spans_room
-        few = let same = long in let held_few = ask.held_few in let own_few = ask.few in omega arith
-
-      asked : Joins own held count ask.rows ask.new
-      asked = record { held_is = ask.held_is; count_is = ask.count_is; own_is = ask.own_is }
+        few = omega (arith, long, ask.held_few, ask.few, ask.own_is.long, ap length lent)
 
       within_line : entry.at ≤ held + i
-      within_line = let most = (goes asked).within in let same = long asked in omega arith
+      within_line = omega (arith, (goes ask.held_is ask.own_is).within, long ask.held_is ask.own_is)
 
-      pub job_asked : AskInsert jobs (held + i) entry.at
-      job_asked =
-          let jobs_long = so_far.jobs_long in
-          let held_few = ask.held_few in
-          let own_few = ask.few in
-          record { room = omega arith; within = within_line }
+      room : held + i < spans_room
+      room = omega (arith, ask.held_few, ask.few, ask.own_is.long, ap length lent)
 
-      pub note_asked : AskInsertNote notes (held + i) entry.at
-      note_asked =
-          let held_few = ask.held_few in
-          let own_few = ask.few in
-          record { long = so_far.notes_long; room = omega arith; within = within_line }
+      pub job_asked : AskInsert t.jobs (held + i) entry.at
+      job_asked = record { room = omega (arith, so_far.jobs_long, room); within = within_line }
+
+      pub note_asked : AskInsert t.notes (held + i) entry.at
+      note_asked = record { room = omega (arith, so_far.notes_long, room); within = within_line }
 
       abbrev note : Note
-      note = record { label = entry.label; cost = entry.cost; last = last }
+      note = record { holder = entry.holder; cost = entry.cost; last = last }
 
-      module _ {jobs' notes' : List ℕ} (first : InsertedAt jobs (held + i) entry.at job jobs')
-          (second : NoteInserted notes (held + i) entry.at note notes') where
-        module _ {rows new : List Row} (joins : Joins own held count rows new) (carry : Carry new job) where
-          carried : (row joins).job ≡ job
-          carried = carry (row joins) (get_or_mem new i no_row (there joins))
+      module _ {jobs' : List ℕ} {notes' : List Note} (first : InsertedAt t.jobs (held + i) entry.at job jobs')
+          (second : InsertedAt t.notes (held + i) entry.at note notes') where
+        abbrev joined : Timetable
+        joined = record t { jobs = jobs'; notes = notes' }
 
-          entry_is : entry ≡ entry_for entry.at (row joins)
-          entry_is = rw read (joins.own_is.is i (there joins))
+        module _ {rows new : List Row} (held_is : held ≡ length rows) (own_is : OwnRows rows new own) (carry : Carry new job) where
+          abbrev its : Row
+          its = get_or new i no_row
 
-          next_jobs : JobsOf (line_of rows) jobs₀ → JobsOf (line_of (rows_to rows new (i + 1))) jobs'
+          carried : its.job ≡ job
+          carried = carry its (get_or_mem new i no_row (there held_is own_is))
+
+          entry_is : entry ≡ entry_for entry.at its
+          entry_is = rw lent (own_is.is i (there held_is own_is))
+
+          next_jobs : JobsOf (line_of rows) t₀.jobs → JobsOf (line_of (rows_to rows new (i + 1))) jobs'
           next_jobs is =
-              column_inserted (λ row. row.job) (goes joins) (few joins) (rw (← so_far.jobs_are rows new joins carry is, long joins, carried) first)
-              ∙ ap (column (λ row. row.job)) (sym (line_to_more rows new i (there joins)))
+              column_inserted
+              (λ row. row.job)
+              (goes held_is own_is)
+              (few held_is own_is)
+              (rw (← so_far.jobs_are rows new held_is own_is carry is, long held_is own_is, carried) first)
+              ∙ ap (column (λ row. row.job)) (sym (line_to_more rows new i (there held_is own_is)))
 
           next_notes :
-              (lasts : ℕ → ℕ) → lasts job ≡ last → notes₀ ≡ notes_of lasts (line_of rows) → notes' ≡ notes_of lasts (line_of (rows_to rows new (i + 1)))
+              (lasts : ℕ → ℕ) → lasts job ≡ last → t₀.notes ≡ notes_of lasts (line_of rows) → notes' ≡ notes_of lasts (line_of (rows_to rows new (i + 1)))
           next_notes lasts same is =
-              let label : entry.label ≡ holder_label (row joins).holder = ap (λ e. e.label) entry_is in
-              let cost : entry.cost ≡ (row joins).cost = ap (λ e. e.cost) entry_is in
-              let end : lasts (row joins).job ≡ last = ap lasts carried ∙ same in
-              let noted : noted_of lasts (row joins) ≡ note = rw (label, cost, end) refl in
-              notes_inserted lasts (goes joins) (few joins) (rw (← so_far.notes_are rows new lasts joins carry same is, long joins, noted) second)
-              ∙ ap (notes_of lasts) (sym (line_to_more rows new i (there joins)))
+              let holder : entry.holder ≡ its.holder = ap (λ e. e.holder) entry_is in
+              let cost : entry.cost ≡ its.cost = ap (λ e. e.cost) entry_is in
+              let end : lasts its.job ≡ last = ap lasts carried ∙ same in
+              let noted : note_of lasts its ≡ note = rw (holder, cost, end) refl in
+              column_inserted
+              (note_of lasts)
+              (goes held_is own_is)
+              (few held_is own_is)
+              (rw (← so_far.notes_are rows new lasts held_is own_is carry same is, long held_is own_is, noted) second)
+              ∙ ap (notes_of lasts) (sym (line_to_more rows new i (there held_is own_is)))
 
-        pub joining_more : Joining jobs₀ notes₀ own held count job last jobs' notes' (i + 1)
+        pub joining_more : Joining t₀ own held job last joined (i + 1)
         joining_more = record {
-          within = omega arith;
+          beside = λ k. record (so_far.beside k) { jobs = jobs'; notes = notes' };
           jobs_long = first.long ∙ so_far.jobs_long;
           notes_long = second.long ∙ so_far.notes_long;
-          jobs_are = λ rows new joins carry is. next_jobs joins carry is;
-          notes_are = λ rows new lasts joins carry same is. next_notes joins carry lasts same is;
+          jobs_are = λ rows new held_is own_is carry is. next_jobs held_is own_is carry is;
+          notes_are = λ rows new lasts held_is own_is carry same is. next_notes held_is own_is carry lasts same is;
         }

@@ -1,182 +1,175 @@
--- A job that has passed refusals 1 to 6, placed and settled: the answer is the rules', an admission's rows have joined the timeline, and those of a refusal are
--- taken off it again.
-use mathlib.Core.Path.{◌≡◌, sym, ap, ◌∙◌}
-use mathlib.Core.List.{List, Memᴰ}
-use Prim.Native.Nat.{ℕ, ◌+◌, ◌*◌, ◌^◌, ◌≤◌, ◌<◌}
+-- A job that has passed refusals 1 to 6, placed: late, too many rows, or admitted. The answer is the rules', an admission's rows have joined the timeline, and
+-- those of a refusal are taken off it again.
+use mathlib.Core.Path.{◌≡◌, refl, sym, ap, ◌∙◌}
+use mathlib.Core.List.{List}
+use Prim.Native.Nat.{◌+◌, ◌^◌, ◌≤◌, ◌<◌}
 use native.Mathlib.Omega.{arith}
-use lib.Dec.{eqb}
-use lib.ListN.{length, get_or, get_or-eq_default}
-use borrow.Author.Tests.{eq-eqb, eqb-true, eqb-false}
-use Rattle.rules.specs.declared.Answer.{Answer}
-use Rattle.rules.specs.declared.Row.{Row}
+use lib.ListN.{length}
+use borrow.Author.Tests.{eq-eqb}
+use Rattle.std.proofs.Common.{Result, Ok, Err}
 use Rattle.rules.specs.declared.Job.{Job}
 use Rattle.rules.specs.declared.Setup.{Setup}
-use Rattle.rules.specs.Words.{State, of_job}
-use Rattle.rules.specs.Placing.{no_row}
-use Rattle.rules.specs.Refusals.{submits, step}
-use Rattle.rules.specs.Bounds.{RowInRange}
-use Rattle.rules.proofs.Sequences.{by_test, by_less, clash, any_none, get_or_mem}
+use Rattle.rules.specs.declared.answers.Admission.{Admission}
+use Rattle.rules.specs.declared.answers.Refusal.{Refusal}
+use Rattle.rules.specs.declared.answers.Refusal.TheVariants as R
+use Rattle.rules.specs.Answers.{answered, refused}
+use Rattle.rules.specs.Words.{State, view, of_job, row_limit}
+use Rattle.rules.specs.Placing.{booked}
+use Rattle.rules.specs.Refusals.{placing, submits, step}
+use Rattle.rules.proofs.Sequences.{clash, any_none}
 use Rattle.rules.proofs.Bounds.{scheduling_figure}
-use Rattle.rules.proofs.Demand1.{demand_1}
-use Rattle.timeline.specs.RowLine.{most_own, row_end}
-use Rattle.figures.specs.Rows.{SchedulingIs}
-use Rattle.placement.specs.declared.place.Placement.{Placement}
-use Rattle.placement.specs.Own.{entry_size, owned, OwnRows}
-use Rattle.placement.specs.Placements.{Placeable, AskPlace, Placed, PlacedIs}
-use Rattle.timetable.specs.declared.Status.{Status}
-use Rattle.admission.specs.Submitted.{AskSettle, Settled, SettledIs, Undoable, AskUndo, Undone, Judging, AskJudged, Admission, JudgedIs}
+use Rattle.timeline.specs.RowLine.{spans_room}
+use Rattle.timeline.specs.Lines.{LineOf}
+use Rattle.timeline.specs.declared.line.Timeline.{Timeline}
+use Rattle.placement.specs.declared.own.Entry.{Entry}
+use Rattle.placement.specs.declared.place.Late.{Late}
+use Rattle.placement.specs.Placements.{Placeable, AskPlace, placing_of, Placed, PlacedIs}
+use Rattle.timetable.specs.declared.Timetable.{Timetable}
+use Rattle.timetable.specs.Timetables.{TimetableOf}
+use Rattle.admission.specs.Submitted.{Passed, AskUndo, Undone, AskJudged, Accepted, JudgedIs}
 use Rattle.admission.proofs.Admitting.{carry_new}
-
--- rows in range whose figures are lent: past the room for them only zeros would stand
-own_few : {s : Setup} {rows new : List Row} {own : List ℕ} → OwnRows rows new own → ((row : Row) → Memᴰ row new → RowInRange s row) → length new ≤ most_own
-own_few {new = new} {own} own_is range =
-    by_less
-    most_own
-    (length new)
-    (λ more.
-    let long = own_is.long in
-    let ends : get_or own (most_own * entry_size + 2) 0 ≡ row_end (get_or new most_own no_row) = ap (λ e. e.end) (own_is.is most_own more) in
-    let none : get_or own (most_own * entry_size + 2) 0 ≡ 0 = get_or-eq_default own 0 (omega arith) in
-    let lasts = (range (get_or new most_own no_row) (get_or_mem new most_own no_row more)).lasts in
-    absurd (omega arith))
-    (λ most. most)
+use Rattle.admission.proofs.Settling.{submit_7, submit_8, submit_0, submit_left}
 
 -- Placing.
 
-module _ {s : Setup} {st : State} {j : Job} {table row begins ends : List ℕ} {status : Status} (judging : Judging s st j table row begins ends status)
-    {scheduling : ℕ} (read : SchedulingIs row scheduling) where
-  -- the floors count from the clock and the scheduling time
-  pub base_is : status.clock + scheduling ≡ st.calendar.clock + j.scheduling
-  base_is = let same = judging.clock_is in let time = read _ j judging.row_is in omega arith
+module _ {t : Timetable} {s : Setup} {st : State} (is : TimetableOf s st t) where
+  line_held : LineOf st.rows t.line
+  line_held = record {
+    spans = record { begins_are = ap (λ x. x.line.begins) is.is; ends_are = ap (λ x. x.line.ends) is.is };
+    count_is = ap (λ x. x.line.count) is.is;
+  }
 
-  pub placeable : Placeable s j st.rows table row (status.clock + scheduling) begins ends status.count
-  placeable =
-      let range = judging.passed.in_range in
-      let clock = judging.bounded.clock in
-      let time = scheduling_figure s j range in
-      let same = base_is in
-      let count = judging.count_is in
-      let few = judging.bounded.count in
-      record {
-        sound = judging.sound;
-        lent = record { range = range; table_is = judging.table_is; row_is = judging.row_is };
-        base_at_most = omega arith;
-        held_is = count;
-        held_few = omega arith;
-        rows_in_range = judging.bounded.rows;
-        apart = judging.bounded.apart;
-        spans = judging.spans;
-      }
+  -- a timeline of the same rows is the same
+  line_same : {line : Timeline spans_room} → LineOf st.rows line → line ≡ t.line
+  line_same of =
+      let begins = of.spans.begins_are ∙ sym line_held.spans.begins_are in
+      let ends = of.spans.ends_are ∙ sym line_held.spans.ends_are in
+      let count = of.count_is ∙ sym line_held.count_is in
+      λ i. record { begins = begins i; ends = ends i; count = count i }
 
-  pub base_fits : status.clock + scheduling < 2 ^ 64
-  base_fits = let most = placeable.base_at_most in omega arith
+  module _ {j : Job} (before : Passed s st j) where
+    -- the floors count from the clock and the scheduling time
+    base_is : t.clock + j.scheduling ≡ st.calendar.clock + j.scheduling
+    base_is = ap (λ x. x.clock + j.scheduling) is.is
 
-  pub place_asked : {own : List ℕ} → length own ≡ owned → AskPlace table row (status.clock + scheduling) begins ends own status.count
-  place_asked long = record { setup = s; job = j; rows = st.rows; placeable = placeable; own_long = long }
+    placeable : Placeable s j st.rows (t.clock + j.scheduling) t.line
+    placeable = record {
+      sound = is.sound;
+      range = before.in_range;
+      base_at_most = omega (arith, base_is, is.bounded.clock, scheduling_figure s j before.in_range);
+      held_few = is.bounded.count;
+      rows_in_range = is.bounded.rows;
+      apart = is.bounded.apart;
+      line_is = line_held;
+    }
 
--- What placing found, settled.
+    placed_at :
+        {line : Timeline spans_room} {own : List Entry} {r : Result Admission Late} → PlacedIs s j (t.clock + j.scheduling) t.line line own r →
+        Placed s (st.calendar.clock + j.scheduling) st.rows j line own r
+    placed_at places = rw (← base_is) (places st.rows placeable)
 
-module _ {s : Setup} {st : State} {j : Job} {table row begins ends : List ℕ} {status : Status} (judging : Judging s st j table row begins ends status)
-    {begins' ends' own' : List ℕ} {found : Placement} (placed : Placed s (st.calendar.clock + j.scheduling) st.rows j begins' ends' own' found) where
-  pub undoable : Undoable st.rows placed.new begins' ends' own' status.count found.count
-  undoable =
-      let same = judging.count_is in
-      let few = judging.bounded.count in
-      let count = placed.count_is in
-      let own = own_few placed.own_is placed.in_range in
-      record {
-        held_is = same;
-        held_few = omega arith;
-        count_is = count;
-        few = omega arith;
-        spans = placed.spans;
-        own_is = placed.own_is;
-      }
+module _ {t : Timetable} {s : Setup} {j : Job} (asked : AskJudged t s j) where
+  pub place_asked : AskPlace s j (t.clock + j.scheduling) t.line
+  place_asked = record { rows = asked.state.rows; placeable = placeable asked.is asked.passed }
 
-  pub undo_asked : AskUndo begins' ends' own' status.count found.count
-  undo_asked = record { rows = st.rows; new = placed.new; undoable = undoable }
+  pub base_fits : t.clock + j.scheduling < 2 ^ 64
+  base_fits = omega (arith, place_asked.placeable.base_at_most)
 
-  module _ {a : Answer} (settled : Settled s st j placed.new a) where
-    pub judged_admits : a.number ≡ 0 → Admission s st j begins' ends' own' a
-    judged_admits accepted =
-        let left_is = settled.left_is accepted in
+  -- What was placed.
+
+  module _ {line : Timeline spans_room} {own : List Entry} {r : Result Admission Late} (places : PlacedIs s j (t.clock + j.scheduling) t.line line own r) where
+    pub undo_asked : AskUndo line own
+    undo_asked =
+        let placed = placed_at asked.is asked.passed places in
         record {
+          rows = asked.state.rows;
           new = placed.new;
-          left_is = left_is;
-          fits = settled.fits accepted;
-          few = own_few placed.own_is placed.in_range;
-          rows_is = settled.rows_is accepted;
-          in_range = placed.in_range;
-          one_job = carry_new s st j placed.new (ap (λ x. x.number) settled.answer_is ∙ accepted) left_is;
-          new_job = λ r m same. clash (eq-eqb r.job j.number same) (any_none (of_job j.number) judging.passed.free m);
-          spans = placed.spans;
+          line_is = placed.line_is;
+          few = asked.is.bounded.count;
+          new_few = placed.few;
           own_is = placed.own_is;
         }
 
-    -- a refusal counts no rows
-    refused_rows : (a.number ≡ 0 → ⊥) → a.rows ≡ 0
-    refused_rows ne =
-        let answered = (demand_1 s st (submits j)).answered in
-        let refused : (step s st (submits j)).answer.number ≡ 0 → ⊥ = λ z. ne (ap (λ x. x.number) (sym settled.answer_is) ∙ z) in
-        let first = answered.by_a_test refused in
-        ap (λ x. x.rows) (sym settled.answer_is ∙ (answered.first_refusal _ first.0 refused).1 first.1)
+    -- a refusal, with the spans taken off again
+    refuses :
+        {line' : Timeline spans_room} → Undone line own line' → (why : Refusal) →
+        ((st : State) → TimetableOf s st t → Passed s st j → (step s st (submits j)).answer ≡ refused why) →
+        JudgedIs t s j (record t { line = line' }) own (Err why)
+    refuses {line'} undone why told =
+        let placed = placed_at asked.is asked.passed places in
+        let same : line' ≡ t.line
+        = line_same asked.is (undone asked.state.rows placed.new placed.line_is asked.is.bounded.count placed.own_is) in
+        record {
+          beside = refl;
+          answer_is = λ st is before. sym (told st is before);
+          refused_same = λ other e. ap (λ l. record t { line = l }) same;
+          accepted = λ a e. absurd (cc);
+        }
 
-    pub rows_few : a.rows ≤ most_own
-    rows_few =
-        by_test
-        (eqb a.number 0)
-        (λ e. let few = own_few placed.own_is placed.in_range in let same = settled.rows_is (eqb-true a.number 0 e) in omega arith)
-        (λ e. let none = refused_rows (eqb-false a.number 0 e) in omega arith)
+    pub judged_late :
+        {l : Late} → r ≡ Err l → {line' : Timeline spans_room} → Undone line own line' →
+        JudgedIs t s j (record t { line = line' }) own (Err (R.Missed l.task))
+    unfolding placing
+    judged_late {l} e undone =
+        refuses
+        undone
+        (R.Missed l.task)
+        (λ st is before.
+        let placed = placed_at is before places in
+        submit_7 s st j before (sym (ap (λ x. placing_of x placed.new) (sym e) ∙ placed.is)))
 
--- Every job that is judged so.
+    module _ {a : Admission} (e : r ≡ Ok a) where
+      module _ {st : State} (is : TimetableOf s st t) (before : Passed s st j) where
+        abbrev placed : Placed s (st.calendar.clock + j.scheduling) st.rows j line own r
+        placed = placed_at is before places
 
-module _ {table row own begins ends : List ℕ} {status : Status} (asked : AskJudged table row own begins ends status)
-    {scheduling : ℕ} (read : SchedulingIs row scheduling) {begins' ends' own' : List ℕ} {found : Placement}
-    (places : PlacedIs table row (status.clock + scheduling) begins ends status.count begins' ends' own' found) where
-  placed_at :
-      {s : Setup} {st : State} {j : Job} → Judging s st j table row begins ends status →
-      Placed s (st.calendar.clock + j.scheduling) st.rows j begins' ends' own' found
-  placed_at {s} {st} {j} judging = rw (← base_is judging read) (places.is s j st.rows (placeable judging read))
+        rows_booked : placing s (view st) j ≡ booked placed.new
+        unfolding placing
+        rows_booked = sym placed.is ∙ ap (λ x. placing_of x placed.new) e
 
-  pub settle_asked : AskSettle status.count found
-  settle_asked = record { count_at_most = (placeable asked.judging read).held_few; found_at_most = places.count_at_most }
+        rows_held : t.line.count + length own ≡ length st.rows + length placed.new
+        rows_held = omega (arith, (line_held is).count_is, placed.own_is.long)
 
-  pub undo_asked_of : AskUndo begins' ends' own' status.count found.count
-  undo_asked_of = undo_asked asked.judging (placed_at asked.judging)
+      pub judged_full :
+          row_limit < t.line.count + length own → {line' : Timeline spans_room} → Undone line own line' →
+          JudgedIs t s j (record t { line = line' }) own (Err R.NoRoom)
+      judged_full over undone =
+          refuses
+          undone
+          R.NoRoom
+          (λ st is before. submit_8 s st j before (placed is before).new (rows_booked is before) (omega (arith, rows_held is before)))
 
-  module _ {a : Answer} (settles : SettledIs status.count found a) where
-    settled_at : {s : Setup} {st : State} {j : Job} (judging : Judging s st j table row begins ends status) → Settled s st j (placed_at judging).new a
-    settled_at {s} {st} {j} judging = settles s st j begins' ends' own' judging.count_is judging.passed (placed_at judging)
+      module _ (fits : t.line.count + length own ≤ row_limit) where
+        module _ {st : State} (is : TimetableOf s st t) (before : Passed s st j) where
+          room : length st.rows + length (placed is before).new ≤ row_limit
+          room = omega (arith, rows_held is before)
 
-    few : a.rows ≤ most_own
-    few = rows_few asked.judging (placed_at asked.judging) (settled_at asked.judging)
+          answer : answered (Ok a) ≡ (step s st (submits j)).answer
+          answer =
+              let counts = (placed is before).admission_is a e in
+              rw (counts.0, counts.1) (sym (submit_0 s st j before (placed is before).new (rows_booked is before) room))
 
-    pub judged_accepted : a.number ≡ 0 → JudgedIs table row begins ends status own' begins' ends' a
-    judged_accepted accepted = record {
-      own_long = places.own_long;
-      begins_long = places.begins_long;
-      ends_long = places.ends_long;
-      rows_at_most = few;
-      is =
-          λ s st j judging. record {
-            answer_is = (settled_at judging).answer_is;
-            refused = λ ne. absurd (ne accepted);
-            admission = λ z. judged_admits judging (placed_at judging) (settled_at judging) z;
-          };
-    }
+          accepts : Accepted s st j line own a
+          accepts =
+              let one = placed is before in
+              let left = submit_left s st j before one.new (rows_booked is before) room in
+              record {
+                new = one.new;
+                left_is = left;
+                count_is = (one.admission_is a e).0;
+                few = one.few;
+                fits = room;
+                one_job = carry_new s st j one.new (ap (λ x. x.number) (sym answer)) left;
+                new_job = λ r m same. clash (eq-eqb r.job j.number same) (any_none (of_job j.number) before.free m);
+                in_range = one.in_range;
+                line_is = one.line_is;
+                own_is = one.own_is;
+              }
 
-    pub judged_refused :
-        (a.number ≡ 0 → ⊥) → {begins'' ends'' : List ℕ} → Undone begins' ends' own' status.count found.count begins'' ends'' →
-        JudgedIs table row begins ends status own' begins'' ends'' a
-    judged_refused ne undone = record {
-      own_long = places.own_long;
-      begins_long = undone.begins_long ∙ places.begins_long;
-      ends_long = undone.ends_long ∙ places.ends_long;
-      rows_at_most = few;
-      is =
-          λ s st j judging. record {
-            answer_is = (settled_at judging).answer_is;
-            refused = λ z. undone.is st.rows (placed_at judging).new (undoable judging (placed_at judging));
-            admission = λ z. absurd (ne z);
-          };
-    }
+        pub judged_admitted : JudgedIs t s j (record t { line = line }) own (Ok a)
+        judged_admitted = record {
+          beside = refl;
+          answer_is = λ st is before. answer is before;
+          refused_same = λ why bad. absurd (cc);
+          accepted = λ other same st is before. let one : a ≡ other = cc in rw (← one) (accepts is before);
+        }

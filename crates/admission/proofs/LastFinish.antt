@@ -6,7 +6,9 @@ use native.Mathlib.Nat.{mul-add-mod_self_right, mod-eq_of_lt}
 use native.Mathlib.Omega.{arith}
 use native.Mathlib.Numerals.{add-one}
 use lib.ListN.{length, get_or, take}
-use lib.Seq.{take-suc, take-length}
+use lib.Seq.{take-suc, take_all}
+use Rattle.std.specs.Ordering.{nat_cmp, ord_max}
+use Rattle.std.proofs.lemmas.Bool.Decides.{nat_tests}
 use Rattle.rules.specs.declared.Row.{Row}
 use Rattle.rules.specs.declared.Setup.{Setup}
 use Rattle.rules.specs.Words.{resource}
@@ -40,34 +42,34 @@ finish_left : (s : Setup) (row : Row) → RowInRange s row → row_end row % tic
 finish_left s row range =
     mul-add-mod_self_right (resource_number (resource row)) tick_room row.finish ∙ mod-eq_of_lt (let ends = range.ends in omega arith)
 
+-- the library's greater of two numbers
+greater : (a b : ℕ) → ord_max nat_cmp a b ≡ max a b
+greater a b = grind (arith, nat_tests)
+
 -- after i rows
-pub record LastSoFar (own : List ℕ) (count last i : ℕ) : Type 0 where
-  pub within : i ≤ count
+pub record LastSoFar (own : List Entry) (last i : ℕ) : Type 0 where
   pub is :
-      (s : Setup) (rows new : List Row) → OwnRows rows new own → count ≡ length new → ((row : Row) → Memᴰ row new → RowInRange s row) →
+      (s : Setup) (rows new : List Row) → OwnRows rows new own → ((row : Row) → Memᴰ row new → RowInRange s row) →
       last ≡ most_of (finishes (take i new))
 
-module _ {own : List ℕ} {count : ℕ} where
-  pub last_none : LastSoFar own count 0 0
+module _ {own : List Entry} where
+  pub last_none : LastSoFar own 0 0
   unfolding most_of
-  last_none = record { within = omega arith; is = λ s rows new own_is n range. refl }
+  last_none = record { is = λ s rows new own_is range. refl }
 
-  module _ {last i : ℕ} (so_far : LastSoFar own count last i) where
-    pub last_more :
-        (last' : ℕ) → i < count → {entry : Entry} → entry ≡ nth_entry own i → last' ≡ max last (entry.end % tick_room) → LastSoFar own count last' (i + 1)
-    last_more last' more {entry} read later = record {
-      within = omega arith;
+  module _ {last i : ℕ} (so_far : LastSoFar own last i) where
+    pub last_more : {last' : ℕ} → i < length own → last' ≡ ord_max nat_cmp last ((nth_entry own i).end % tick_room) → LastSoFar own last' (i + 1)
+    last_more more later = record {
       is =
-          λ s rows new own_is n range.
-          let there : i < length new = omega arith in
+          λ s rows new own_is range.
+          let there : i < length new = omega (arith, own_is.long) in
           let row = get_or new i no_row in
-          let ends : entry.end ≡ row_end row = ap (λ e. e.end) (read ∙ own_is.is i there) in
-          let finish : entry.end % tick_room ≡ row.finish = ap (λ k. k % tick_room) ends ∙ finish_left s row (range row (get_or_mem new i no_row there)) in
-          rw (finishes_more new i there, most_more, ← so_far.is s rows new own_is n range, ← finish) later;
+          let ends : (nth_entry own i).end ≡ row_end row = ap (λ e. e.end) (own_is.is i there) in
+          let finish : (nth_entry own i).end % tick_room ≡ row.finish
+          = ap (λ k. k % tick_room) ends ∙ finish_left s row (range row (get_or_mem new i no_row there)) in
+          rw (finishes_more new i there, most_more, ← so_far.is s rows new own_is range, ← finish) (later ∙ greater last _);
     }
 
-    pub last_all : count ≤ i → LastIs own count last
-    last_all over s rows new own_is n range =
-        let most = so_far.within in
-        let same : i ≡ length new = omega arith in
-        so_far.is s rows new own_is n range ∙ ap (λ k. most_of (finishes (take k new))) same ∙ ap (λ l. most_of (finishes l)) (take-length new)
+    pub last_all : length own ≤ i → LastIs own last
+    last_all over s rows new own_is range =
+        so_far.is s rows new own_is range ∙ ap (λ l. most_of (finishes l)) (take_all i new (omega (arith, own_is.long)))

@@ -4,9 +4,8 @@ pub mod Owning
 pub mod Undoing
 pub mod LastFinish
 pub mod Joining
-pub mod Settling
 pub mod Admitting
-pub mod NewRows
+pub mod Settling
 pub mod Judging
+pub mod NewRows
 pub mod Submitting
-pub mod Submitted

@@ -2,44 +2,35 @@
 -- soonest end is the sooner of what it was and of that.
 use mathlib.Core.Path.{◌≡◌, refl, sym, ap, ap₂, ◌∙◌}
 use mathlib.Core.Logic.{⊎_elim}
-use mathlib.Core.List.{List, [], ◌∷◌, ◌++◌, map, map-append, append-nil}
+use mathlib.Core.List.{List, [], ◌∷◌, ◌++◌, map, append-nil}
 use mathlib.Core.List.Memᴰ
 use mathlib.Core.List.{Memᴰ}
-use Prim.Native.Nat.{ℕ, zero, suc, ◌-◌, ◌≤◌, min}
+use Prim.Native.Nat.{ℕ, ◌-◌, ◌≤◌, min}
 use native.Mathlib.Omega.{arith}
-use lib.ListN.{length, replicate}
+use lib.ListN.{length}
 use borrow.Author.Tests.{eq-eqb, ne_eqb}
 use Rattle.rules.specs.declared.Row.{Row}
-use Rattle.rules.specs.Sequences.{keep, joined}
+use Rattle.rules.specs.Sequences.{keep}
 use Rattle.rules.specs.Words.{of_job}
-use Rattle.rules.specs.Codes.{holder_label}
-use Rattle.rules.specs.Placing.{no_row}
 use Rattle.rules.proofs.Sequences.{keep_append, keep_all, keep_none, map_same}
-use Rattle.timeline.specs.RowLine.{spans_room, slots, notes_of}
+use Rattle.timeline.specs.RowLine.{spans_room, slots, note_of, notes_of}
 use Rattle.timetable.specs.Derived.{least_of, most_of, never, last_finish, soonest_end}
+use Rattle.timetable.proofs.Lists.{mem_replicate}
+use Rattle.timetable.proofs.Extremes.{least_none, least_low, least_above}
 
 -- The least and the most of figures.
 
-least_at_most : (none : ℕ) (l : List ℕ) → least_of none l ≤ none
-unfolding least_of
-least_at_most none [] = omega arith
-least_at_most none (n ∷ l) = let below = least_at_most none l in omega arith
+module _ {A : Type 0} (none : ℕ) (figure : A → ℕ) where
+  least_append : (a b : List A) → least_of none (map figure (a ++ b)) ≡ min (least_of none (map figure a)) (least_of none (map figure b))
+  unfolding least_of
+  least_append [] b = omega (arith, least_none none figure b)
+  least_append (x ∷ a) b = omega (arith, least_append a b)
 
-least_append : (none : ℕ) (a b : List ℕ) → least_of none (a ++ b) ≡ min (least_of none a) (least_of none b)
-unfolding least_of
-least_append none [] b = let most = least_at_most none b in omega arith
-least_append none (n ∷ a) b = let below = least_append none a b in omega arith
-
--- one figure for all
-least_again : (none figure : ℕ) (rows : List Row) → min figure (least_of none (map (λ row. figure) rows)) ≡ min figure none
-unfolding least_of
-least_again none figure [] = refl
-least_again none figure (row ∷ rows) = let below = least_again none figure rows in omega arith
-
-least_all : (none figure : ℕ) (rows : List Row) {row : Row} → Memᴰ row rows → least_of none (map (λ row. figure) rows) ≡ min figure none
-unfolding least_of
-least_all none figure [] m = absurd (Memᴰ.not-nil m)
-least_all none figure (row ∷ rows) m = least_again none figure rows
+  -- of those that all say the same
+  least_same :
+      (n : ℕ) (l : List A) → n ≤ none → ((x : A) → Memᴰ x l → figure x ≡ n) → {x : A} → Memᴰ x l → least_of none (map figure l) ≡ n
+  least_same n l within same {x} some =
+      omega (arith, least_low none figure some, same x some, least_above none figure n l within (λ y m. omega (arith, same y m)))
 
 pub most_bounded : (bound : ℕ) (rows : List Row) → ((row : Row) → Memᴰ row rows → row.finish ≤ bound) → most_of (map (λ row. row.finish) rows) ≤ bound
 unfolding most_of
@@ -49,25 +40,21 @@ most_bounded bound (row ∷ rows) h =
 
 -- Notes that differ in the last finish of jobs that are not on the line.
 
-blank_mem : (n : ℕ) {row : Row} → Memᴰ row (replicate n no_row) → row ≡ no_row
-blank_mem zero m = absurd (Memᴰ.not-nil m)
-blank_mem (suc n) m = ⊎_elim (λ same. same) (λ k. blank_mem n k) (Memᴰ.cases_cons m)
-
 pub notes_same :
     (lasts lasts' : ℕ → ℕ) (line : List Row) → ((row : Row) → Memᴰ row line → lasts row.job ≡ lasts' row.job) → lasts 0 ≡ lasts' 0 →
     notes_of lasts line ≡ notes_of lasts' line
 notes_same lasts lasts' line same blank =
-    ap
-    joined
-    (map_same _ _
+    map_same
+    (note_of lasts)
+    (note_of lasts')
     (slots spans_room line)
     (λ row m.
     ap
-    (λ n. holder_label row.holder ∷ row.cost ∷ n ∷ [])
+    (λ n. record { holder = row.holder; cost = row.cost; last = n })
     (⊎_elim
     (same row)
-    (λ k. let job : row.job ≡ 0 = ap (λ r. r.job) (blank_mem (spans_room - length line) k) in ap lasts job ∙ blank ∙ sym (ap lasts' job))
-    (Memᴰ.append_cases line m))))
+    (λ k. let job : row.job ≡ 0 = ap (λ r. r.job) (mem_replicate (spans_room - length line) k) in ap lasts job ∙ blank ∙ sym (ap lasts' job))
+    (Memᴰ.append_cases line m)))
 
 -- The last finish and the soonest end.
 
@@ -100,11 +87,8 @@ module _ (held new : List Row) where
         soonest_end (held ++ new) ≡ min (soonest_end held) last
     soonest_joined {last} is within some =
         let ends : Row → ℕ = λ row. last_finish (held ++ new) row.job in
-        ap (least_of never) (map-append ends held new)
-        ∙ least_append never (map ends held) (map ends new)
+        least_append never ends held new
         ∙ ap₂
         min
         (ap (least_of never) (map_same _ _ held last_held))
-        (ap (least_of never) (map_same _ _ new (λ row m. ap (last_finish (held ++ new)) (one_job row m) ∙ last_new ∙ sym is))
-        ∙ least_all never last new some
-        ∙ (let same : min last never ≡ last = omega arith in same))
+        (least_same never ends last new within (λ row m. ap (last_finish (held ++ new)) (one_job row m) ∙ last_new ∙ sym is) some)

@@ -9,7 +9,7 @@ use lib.Seq.{length-take-le, take-suc, take-length}
 use Rattle.rules.specs.declared.Row.{Row}
 use Rattle.rules.specs.Placing.{no_row}
 use Rattle.timeline.specs.RowLine.{insert_row, line_of}
-use Rattle.timeline.proofs.Line.{line_more, line_long}
+use Rattle.timeline.proofs.RowLines.{line_more, line_long}
 
 module _ (rows new : List Row) where
   abbrev pub rows_to : (i : ℕ) → List Row

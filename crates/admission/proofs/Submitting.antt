@@ -1,202 +1,196 @@
--- A submission over the columns of a timetable: one that is accepted leaves the timetable of the rows held and new, one that is refused leaves all as it was.
+-- A submission over a timetable: one that is accepted leaves the timetable of the rows held and new, one that is refused leaves all as it was.
 use mathlib.Core.Path.{◌≡◌, refl, sym, ap, ◌∙◌, subst}
 use mathlib.Core.List.{List, ◌++◌, map}
 use Prim.Native.Nat.{ℕ, ◌+◌, ◌^◌, ◌≤◌, ◌<◌, min}
 use native.Mathlib.Omega.{arith}
-use lib.ListN.{length, length-append}
-use Rattle.rules.specs.declared.Answer.{Answer}
+use Rattle.std.proofs.Common.{Ok, Err}
 use Rattle.rules.specs.declared.Row.{Row}
 use Rattle.rules.specs.declared.Job.{Job}
 use Rattle.rules.specs.declared.Setup.{Setup}
-use Rattle.rules.specs.Words.{State, horizon, row_limit}
+use Rattle.rules.specs.declared.answers.Admission.{Admission}
+use Rattle.rules.specs.declared.answers.Refusal.{Refusal}
+use Rattle.rules.specs.Answers.{answered}
+use Rattle.rules.specs.Words.{State, horizon}
 use Rattle.rules.specs.Placing.{costs}
 use Rattle.rules.specs.Withdrawing.{admit}
 use Rattle.rules.specs.Refusals.{submits, step}
 use Rattle.rules.specs.Bounds.{Bounded}
 use Rattle.rules.proofs.Bounds.{bounded_step}
-use Rattle.rules.proofs.Demand1.{demand_1}
-use Rattle.timeline.specs.RowLine.{spans_room, line_of, notes_of, SpansOf}
-use Rattle.timeline.proofs.Line.{line_long, line_from}
-use Rattle.timeline.proofs.Columns.{column_long, notes_long}
+use Rattle.timeline.specs.RowLine.{line_of, column, notes_of}
+use Rattle.timeline.proofs.RowLines.{line_from}
+use Rattle.placement.specs.declared.own.Entry.{Entry}
 use Rattle.placement.proofs.Placed.{costs_at_most}
-use Rattle.timetable.specs.declared.Status.{Status}
+use Rattle.timetable.specs.declared.Timetable.{Timetable}
 use Rattle.timetable.specs.Derived.{most_of, never, last_finish, soonest_end}
-use Rattle.timetable.specs.Timetables.{TimetableOf}
-use Rattle.admission.specs.Submitted.{Submission, Admission, LastIs, AskJoin, JoinedIs, Found}
+use Rattle.timetable.specs.Timetables.{timetable_of, TimetableOf}
+use Rattle.timetable.proofs.Standing.{notes_are, goes, refused_goes}
+use Rattle.admission.specs.Submitted.{AskTested, TestedIs, Accepted, JudgedIs, LastIs, JoinedIs, Found, SubmitIs}
 use Rattle.admission.proofs.Admitting.{cost_of_new, some_new}
 use Rattle.admission.proofs.NewRows.{most_bounded, notes_same, last_kept, last_held, last_new, soonest_joined}
 
 -- A refusal.
 
-module _ (s : Setup) (st : State) (j : Job) {a : Answer} (answer_is : (step s st (submits j)).answer ≡ a) (refused : a.number ≡ 0 → ⊥) where
-  pub refused_left : (step s st (submits j)).left ≡ st
-  refused_left = (demand_1 s st (submits j)).untouched (λ z. refused (ap (λ x. x.number) (sym answer_is) ∙ z))
+module _ {t : Timetable} {s : Setup} {j : Job} where
+  refused :
+      {why : Refusal} → ((st : State) → TimetableOf s st t → answered (Err why) ≡ (step s st (submits j)).answer) → (own : List Entry) →
+      SubmitIs t s j t own (Err why)
+  refused told own = record {
+    is = λ st is. refused_goes is (submits j) (sym (told st is));
+    refused_same = λ why e. refl;
+    found = λ a e. absurd (cc);
+  }
 
-  module _ {begins ends jobs notes : List ℕ} {status : Status} (timetable : TimetableOf s st begins ends jobs notes status) where
-    pub refused_same : TimetableOf s (step s st (submits j)).left begins ends jobs notes status
-    refused_same = rw refused_left timetable
+  pub early_refused : {why : Refusal} → TestedIs t s j (Err why) → (own : List Entry) → SubmitIs t s j t own (Err why)
+  early_refused {why} tests own = refused (λ st is. sym (tests.refuses why refl st is)) own
 
-    -- spans that came and were taken off again
-    pub refused_undone :
-        {begins' ends' : List ℕ} → SpansOf st.rows begins' ends' →
-        TimetableOf s (step s st (submits j)).left begins' ends' jobs notes status
-    refused_undone spans = rw refused_left record {
-      sound = timetable.sound;
-      bounded = timetable.bounded;
-      spans = spans;
-      jobs_are = timetable.jobs_are;
-      notes_are = timetable.notes_are;
-      status_is = timetable.status_is;
-    }
+  pub late_refused :
+      TestedIs t s j (Ok tt) → {t' : Timetable} {own : List Entry} {why : Refusal} → JudgedIs t s j t' own (Err why) → SubmitIs t s j t' own (Err why)
+  late_refused tests {own = own} {why} judges =
+      rw (judges.refused_same why refl) (refused (λ st is. judges.answer_is st is (tests.passes refl st is)) own)
 
--- An admission.
+-- An admission: the rows have joined the timeline alone so far.
 
-status_same :
-    {clock clock' count count' total total' soonest soonest' : ℕ} → clock ≡ clock' → count ≡ count' → total ≡ total' → soonest ≡ soonest' →
-    ◌≡◌
-    {A = Status}
-    (record { clock = clock; count = count; total = total; soonest = soonest })
-    (record { clock = clock'; count = count'; total = total'; soonest = soonest' })
-status_same same_clock same_count same_total same_soonest = rw (same_clock, same_count, same_total, same_soonest) refl
-
-module _ {s : Setup} {st : State} {j : Job} {table row begins ends jobs notes : List ℕ} {status : Status}
-    (given : Submission s st j table row begins ends jobs notes status) {begins' ends' own' : List ℕ} {a : Answer}
-    (answer_is : (step s st (submits j)).answer ≡ a) (accepted : a.number ≡ 0) (admission : Admission s st j begins' ends' own' a) where
+module _
+    {t : Timetable} {s : Setup} {st : State} {j : Job} (is : TimetableOf s st t) {t' : Timetable} {own : List Entry} {a : Admission}
+    (beside : t' ≡ record t { line = t'.line }) (told : answered (Ok a) ≡ (step s st (submits j)).answer)
+    (accepted : Accepted s st j t'.line own a) where
   abbrev held : List Row
   held = st.rows
 
   abbrev new : List Row
-  new = admission.new
+  new = accepted.new
 
   is_accepted : (step s st (submits j)).answer.number ≡ 0
-  is_accepted = ap (λ x. x.number) answer_is ∙ accepted
-
-  cost_is : a.cost ≡ costs new
-  cost_is = ap (λ x. x.cost) (sym answer_is) ∙ cost_of_new s st j new is_accepted admission.left_is
-
-  count_is : status.count ≡ length held
-  count_is = ap (λ x. x.count) given.timetable.status_is
+  is_accepted = sym (ap (λ x. x.number) told)
 
   bounded_left : Bounded s (admit st new)
-  bounded_left = subst (Bounded s) admission.left_is (bounded_step s given.timetable.sound st (submits j) given.timetable.bounded)
+  bounded_left = subst (Bounded s) accepted.left_is (bounded_step s is.sound st (submits j) is.bounded)
 
-  -- the count and the total fit
-  pub count_fits : status.count + a.rows ≤ row_limit
-  count_fits = let rows = admission.rows_is in let same = count_is in let fits = admission.fits in omega arith
+  total_is : t'.total + a.cost ≡ st.total + costs new
+  total_is =
+      omega (
+        arith,
+        ap (λ x. x.total) beside,
+        ap (λ x. x.total) is.is,
+        ap (λ x. x.cost) told,
+        cost_of_new s st j new is_accepted accepted.left_is,
+      )
 
-  total_is : status.total + a.cost ≡ st.total + costs new
-  total_is = let before = ap (λ x. x.total) given.timetable.status_is in let cost = cost_is in omega arith
-
-  pub total_fits : status.total + a.cost < 2 ^ 64
+  total_fits : t'.total + a.cost < 2 ^ 64
   unfolding admit
-  total_fits =
-      let bounded = bounded_left in
-      let total = bounded.total in
-      let count = bounded.count in
-      let most = costs_at_most s (held ++ new) bounded.rows in
-      let same = total_is in
-      omega arith
+  total_fits = omega (arith, total_is, bounded_left.total, bounded_left.count, costs_at_most s (held ++ new) bounded_left.rows)
 
-  -- what is asked where the numbers and notes join
-  pub join_asked : AskJoin jobs notes own' status.count a.rows
-  join_asked =
-      let same = count_is in
-      let few = given.timetable.bounded.count in
-      let rows = admission.rows_is in
-      let own_few = admission.few in
-      let there : length (line_of held) ≤ spans_room = omega (arith, line_long held) in
-      record {
-        jobs_long = ap length given.timetable.jobs_are ∙ column_long (λ r. r.job) (line_of held) there;
-        notes_long = ap length given.timetable.notes_are ∙ notes_long (last_finish held) (line_of held) there;
-        held_few = omega arith;
-        few = omega arith;
-        rows = held;
-        new = new;
-        held_is = count_is;
-        count_is = admission.rows_is;
-        own_is = admission.own_is;
-      }
+  jobs_held : t'.jobs ≡ column (λ row. row.job) (line_of held)
+  jobs_held = ap (λ x. x.jobs) beside ∙ ap (λ x. x.jobs) is.is
+
+  notes_held : t'.notes ≡ notes_of (last_finish held) (line_of held)
+  notes_held = ap (λ x. x.notes) beside ∙ notes_are is
 
   -- the rows that are found
-  pub found : Found s st j own' a
+  rows_found : Found s st j own a
   unfolding admit
-  found = record {
+  rows_found = record {
     new = new;
-    rows_are = ap (λ x. x.rows) admission.left_is;
-    count_is = admission.rows_is;
-    few = admission.few;
-    one_job = admission.one_job;
-    in_range = admission.in_range;
-    own_is = admission.own_is;
+    rows_are = ap (λ x. x.rows) accepted.left_is;
+    count_is = accepted.count_is;
+    few = accepted.few;
+    one_job = accepted.one_job;
+    in_range = accepted.in_range;
+    own_is = accepted.own_is;
   }
 
-  module _ {last : ℕ} (last_is : LastIs own' a.rows last) where
+  module _ {last : ℕ} (last_is : LastIs own last) where
     last_found : last ≡ most_of (map (λ r. r.finish) new)
-    last_found = last_is s held new admission.own_is admission.rows_is admission.in_range
+    last_found = last_is s held new accepted.own_is accepted.in_range
 
     last_within : last ≤ never
-    last_within = let most = most_bounded horizon new (λ r m. (admission.in_range r m).ends) in let same = last_found in omega arith
+    last_within = omega (arith, last_found, most_bounded horizon new (λ r m. (accepted.in_range r m).ends))
 
     -- the soonest end is the sooner one
-    soonest_is : soonest_end (held ++ new) ≡ min (soonest_end held) last
+    soonest_is : min t'.soonest last ≡ soonest_end (held ++ new)
     soonest_is =
-        soonest_joined
+        ap (λ x. min x.soonest last) beside
+        ∙ ap (λ x. min x.soonest last) is.is
+        ∙ sym
+        (soonest_joined
         held
         new
         j.number
-        admission.one_job
-        admission.new_job
+        accepted.one_job
+        accepted.new_job
         last_found
         last_within
-        (some_new s st j new is_accepted admission.left_is).1
+        (some_new s st j new is_accepted accepted.left_is).1)
 
     -- what was noted of the held rows stays right
-    held_noted : notes ≡ notes_of (last_finish (held ++ new)) (line_of held)
+    held_noted : t'.notes ≡ notes_of (last_finish (held ++ new)) (line_of held)
     held_noted =
-        given.timetable.notes_are
+        notes_held
         ∙ notes_same
         (last_finish held)
         (last_finish (held ++ new))
         (line_of held)
-        (λ r m. sym (last_held held new j.number admission.one_job admission.new_job r (line_from held m)))
-        (sym (last_kept held new 0 (λ r m none. let first = (admission.in_range r m).job.first in omega arith)))
+        (λ r m. sym (last_held held new j.number accepted.one_job accepted.new_job r (line_from held m)))
+        (sym (last_kept held new 0 (λ r m none. let first = (accepted.in_range r m).job.first in omega arith)))
 
-    module _ {jobs' notes' : List ℕ} (joined : JoinedIs jobs notes own' status.count a.rows j.number last jobs' notes') where
-      abbrev pub left_status : Status
-      left_status = record {
-        clock = status.clock;
-        count = status.count + a.rows;
-        total = status.total + a.cost;
-        soonest = min status.soonest last;
-      }
+    module _ {count : ℕ} (same : count ≡ t.line.count) {t'' : Timetable} (joined : JoinedIs t' own count j.number last t'') where
+      abbrev left : Timetable
+      left = record t'' { total = t''.total + a.cost; soonest = min t''.soonest last }
 
-      admitted : TimetableOf s (admit st new) begins' ends' jobs' notes' left_status
+      is_left : left ≡ timetable_of (admit st new)
       unfolding admit
-      admitted = record {
-        sound = given.timetable.sound;
-        bounded = bounded_left;
-        spans = admission.spans;
-        jobs_are =
-            joined.jobs_are held new count_is admission.rows_is admission.own_is admission.one_job given.timetable.jobs_are;
-        notes_are =
-            joined.notes_are
-            held
-            new
-            (last_finish (held ++ new))
-            count_is
-            admission.rows_is
-            admission.own_is
-            admission.one_job
-            (last_new held new j.number admission.one_job admission.new_job ∙ sym last_found)
-            held_noted;
-        status_is =
-            let rows = admission.rows_is in
-            let held_count = count_is in
-            let count : status.count + a.rows ≡ length (held ++ new) = omega (arith, length-append held new) in
-            let soonest : min status.soonest last ≡ soonest_end (held ++ new)
-            = ap (λ n. min n last) (ap (λ x. x.soonest) given.timetable.status_is) ∙ sym soonest_is in
-            status_same (ap (λ x. x.clock) given.timetable.status_is) count total_is soonest;
-      }
+      is_left =
+          let begins = ap (λ x. x.line.begins) joined.beside ∙ accepted.line_is.spans.begins_are in
+          let ends = ap (λ x. x.line.ends) joined.beside ∙ accepted.line_is.spans.ends_are in
+          let count = ap (λ x. x.line.count) joined.beside ∙ accepted.line_is.count_is in
+          let held_is = same ∙ ap (λ x. x.line.count) is.is in
+          let jobs = joined.jobs_are held new held_is accepted.own_is accepted.one_job jobs_held in
+          let notes
+          = joined.notes_are
+          held
+          new
+          (last_finish (held ++ new))
+          held_is
+          accepted.own_is
+          accepted.one_job
+          (last_new held new j.number accepted.one_job accepted.new_job ∙ sym last_found)
+          held_noted in
+          let clock = ap (λ x. x.clock) joined.beside ∙ ap (λ x. x.clock) beside ∙ ap (λ x. x.clock) is.is in
+          let total = ap (λ x. x.total + a.cost) joined.beside ∙ total_is in
+          let soonest = ap (λ x. min x.soonest last) joined.beside ∙ soonest_is in
+          λ i. record {
+            line = record { begins = begins i; ends = ends i; count = count i };
+            jobs = jobs i;
+            notes = notes i;
+            clock = clock i;
+            total = total i;
+            soonest = soonest i;
+          }
 
-      pub submitted : TimetableOf s (step s st (submits j)).left begins' ends' jobs' notes' left_status
-      submitted = rw admission.left_is admitted
+-- Every state that the timetable stands for.
+
+module _
+    {t : Timetable} {s : Setup} {j : Job} (tests : TestedIs t s j (Ok tt)) {t' : Timetable} {own : List Entry} {a : Admission}
+    (judges : JudgedIs t s j t' own (Ok a)) where
+  module _ {st : State} (is : TimetableOf s st t) where
+    told_at : answered (Ok a) ≡ (step s st (submits j)).answer
+    told_at = judges.answer_is st is (tests.passes refl st is)
+
+    accepted_at : Accepted s st j t'.line own a
+    accepted_at = judges.accepted a refl st is (tests.passes refl st is)
+
+  module _
+      {count : ℕ} (same : count ≡ t.line.count) {last : ℕ} (last_is : LastIs own last) {t'' : Timetable}
+      (joined : JoinedIs t' own count j.number last t'') where
+    pub total_room : AskTested t s → t''.total + a.cost < 2 ^ 64
+    total_room asked = omega (arith, ap (λ x. x.total) joined.beside, total_fits asked.is judges.beside (told_at asked.is) (accepted_at asked.is))
+
+    pub accepted_submit :
+        {soonest : ℕ} → soonest ≡ min t''.soonest last → SubmitIs t s j (record t'' { total = t''.total + a.cost; soonest = soonest }) own (Ok a)
+    accepted_submit sooner = rw sooner (record {
+      is =
+          λ st is.
+          goes is (submits j) (told_at is) (accepted_at is).left_is (is_left is judges.beside (told_at is) (accepted_at is) last_is same joined);
+      refused_same = λ why bad. absurd (cc);
+      found = λ other e st is. let one : a ≡ other = cc in rw (← one) (rows_found is judges.beside (told_at is) (accepted_at is));
+    })

@@ -1,136 +1,121 @@
 -- The spans of a job's own rows taken off the timeline again, the last one first: what is left is the timeline of the rows held and of those still there.
-use mathlib.Core.Path.{◌≡◌, refl, sym, ap, ◌∙◌, subst}
-use mathlib.Core.List.{List}
+use mathlib.Core.Path.{◌≡◌, sym, ap, ◌∙◌, subst}
+use mathlib.Core.List.{List, ◌++◌, reverse}
 use Prim.Native.Nat.{ℕ, ◌+◌, ◌-◌, ◌≤◌, ◌<◌}
 use native.Mathlib.Omega.{arith}
-use lib.ListN.{length, get_or}
+use lib.ListN.{length, get_or, length-reverse}
+use Rattle.std.proofs.lemmas.List.{get_or-reverse, get_or_default}
 use Rattle.rules.specs.declared.Row.{Row}
-use Rattle.rules.specs.Words.{held_by}
+use Rattle.rules.specs.Words.{row_limit}
 use Rattle.rules.specs.Placing.{no_row}
-use Rattle.timeline.specs.RowLine.{spans_room, row_begin, row_end, insert_row, line_of, GoesAt, AskRemoveAt, RemovedAt, SpansOf}
-use Rattle.timeline.proofs.Columns.{column_long, column_removed}
+use Rattle.timeline.specs.declared.line.Timeline.{Timeline}
+use Rattle.timeline.specs.Grown.{AskOff, SpanOff}
+use Rattle.timeline.specs.Lines.{LineOf}
+use Rattle.timeline.specs.RowLine.{spans_room, row_begin, row_end, insert_row, line_of, GoesAt}
+use Rattle.timeline.proofs.ColumnLaws.{column_long, column_removed, begin_blank, end_blank}
+use Rattle.timeline.proofs.RowLines.{line_long}
 use Rattle.placement.specs.declared.own.Entry.{Entry}
-use Rattle.placement.specs.Own.{nth_entry}
-use Rattle.admission.specs.Submitted.{Undoable, AskUndo, Undone}
+use Rattle.placement.specs.Own.{no_entry, nth_entry, OwnRows}
+use Rattle.admission.specs.Submitted.{AskUndo, Undone}
 use Rattle.admission.proofs.Owning.{rows_to, rows_none, rows_all, line_to_long, line_to_more}
 
--- so many of the own rows are left
-pub record Undoing (begins₀ ends₀ own : List ℕ) (held count : ℕ) (begins ends : List ℕ) (left : ℕ) : Type 0 where
-  pub at_most : left ≤ count
-  pub begins_long : length begins ≡ length begins₀
-  pub ends_long : length ends ≡ length ends₀
-  pub is : (rows new : List Row) → Undoable rows new begins₀ ends₀ own held count → SpansOf (rows_to rows new left) begins ends
+-- the last of the entries that are left, once so many are gone
+pub turned :
+    (own : List Entry) (gone : ℕ) {entry : Entry} → gone < length (reverse own) → entry ≡ get_or (reverse own) gone entry →
+    (gone < length own) × (entry ≡ nth_entry own (length own - 1 - gone))
+turned own gone {entry} more is =
+    let below : gone < length own = omega (arith, length-reverse own) in
+    (below, is ∙ get_or-reverse own gone entry below ∙ get_or_default own (length own - 1 - gone) entry no_entry (omega arith))
 
-begin_none : row_begin no_row ≡ 0
-unfolding held_by
-begin_none = refl
+-- so many of the own rows are gone
+pub record Undoing (line₀ : Timeline spans_room) (own : List Entry) (line : Timeline spans_room) (gone : ℕ) : Type 0 where
+  pub is :
+      (rows new : List Row) → LineOf (rows ++ new) line₀ → length rows ≤ row_limit → OwnRows rows new own →
+      LineOf (rows_to rows new (length own - gone)) line
 
-end_none : row_end no_row ≡ 0
-unfolding held_by
-end_none = refl
-
-module _ {begins₀ ends₀ own : List ℕ} {held count : ℕ} where
-  pub undoing_none : Undoing begins₀ ends₀ own held count begins₀ ends₀ count
+module _ {line₀ : Timeline spans_room} {own : List Entry} where
+  pub undoing_none : Undoing line₀ own line₀ 0
   undoing_none = record {
-    at_most = omega arith;
-    begins_long = refl;
-    ends_long = refl;
-    is = λ rows new can. subst (λ l. SpansOf l begins₀ ends₀) (sym (rows_all rows new count can.count_is)) can.spans;
+    is =
+        λ rows new is few own_is.
+        subst (λ l. LineOf l line₀) (sym (rows_all rows new (length own - 0) (omega (arith, own_is.long)))) is;
   }
 
-  module _ {begins ends : List ℕ} {left : ℕ} (so_far : Undoing begins₀ ends₀ own held count begins ends left) where
-    pub undoing_all : left ≤ 0 → Undone begins₀ ends₀ own held count begins ends
-    undoing_all over =
-        let none : left ≡ 0 = omega arith in
-        record {
-          begins_long = so_far.begins_long;
-          ends_long = so_far.ends_long;
-          is = λ rows new can. subst (λ l. SpansOf l begins ends) (ap (rows_to rows new) none ∙ rows_none rows new) (so_far.is rows new can);
-        }
+  module _ {line : Timeline spans_room} {gone : ℕ} (so_far : Undoing line₀ own line gone) where
+    pub undoing_all : gone ≡ length own → Undone line₀ own line
+    undoing_all all rows new is few own_is =
+        let none : length own - gone ≡ 0 = omega arith in
+        subst (λ l. LineOf l line) (ap (rows_to rows new) none ∙ rows_none rows new) (so_far.is rows new is few own_is)
 
-    -- the figures of the last of the own rows that are left
-    module _ (more : 0 < left) {entry : Entry} (read : entry ≡ nth_entry own (left - 1)) where
+    -- the last of the own rows that are left
+    module _ (ask : AskUndo line₀ own) (more : gone < length own) {entry : Entry} (read : entry ≡ nth_entry own (length own - 1 - gone)) where
       -- the line with that row, and without it
-      module _ {rows new : List Row} (can : Undoable rows new begins₀ ends₀ own held count) where
+      module _ {rows new : List Row} (is : LineOf (rows ++ new) line₀) (few_held : length rows ≤ row_limit) (own_is : OwnRows rows new own) where
+        abbrev last : ℕ
+        last = length own - 1 - gone
+
         abbrev row : Row
-        row = get_or new (left - 1) no_row
+        row = get_or new last no_row
 
-        abbrev line : List Row
-        line = line_of (rows_to rows new (left - 1))
+        abbrev without : List Row
+        without = rows_to rows new last
 
-        abbrev all_left : List Row
-        all_left = line_of (rows_to rows new left)
+        below : last < length new
+        below = omega (arith, own_is.long)
 
-        below : left - 1 < length new
-        below = let most = so_far.at_most in let n = can.count_is in omega arith
+        goes : GoesAt (line_of without) row entry.at
+        goes = rw read (own_is.goes last below)
 
-        goes : GoesAt line row entry.at
-        goes = rw read (can.own_is.goes (left - 1) below)
+        without_few : length (line_of without) < spans_room
+        without_few = omega (arith, below, line_to_long rows new last (omega (arith, below)), own_is.long, ask.own_is.long, ask.new_few)
 
-        long : length line + 1 ≡ held + left
-        long = let same = can.held_is in omega (arith, line_to_long rows new (left - 1) (let h = below in omega arith))
+        again : length own - gone ≡ last + 1
+        again = omega arith
 
-        few : length line < spans_room
-        few =
-            let same = long in
-            let most = so_far.at_most in
-            let held_few = can.held_few in
-            let count_few = can.few in
-            omega arith
+        with_it : line_of (rows_to rows new (length own - gone)) ≡ insert_row row (line_of without)
+        with_it = ap (λ n. line_of (rows_to rows new n)) again ∙ line_to_more rows new last below
 
-        with_it : all_left ≡ insert_row row line
-        with_it = let same : left ≡ left - 1 + 1 = omega arith in ap (λ n. line_of (rows_to rows new n)) same ∙ line_to_more rows new (left - 1) below
+        there : LineOf (rows_to rows new (length own - gone)) line
+        there = so_far.is rows new is few_held own_is
 
-        spans : SpansOf (rows_to rows new left) begins ends
-        spans = so_far.is rows new can
+        count_there : line.count ≡ length (line_of without) + 1
+        count_there =
+            there.count_is
+            ∙ sym (line_long (rows_to rows new (length own - gone)))
+            ∙ ap (λ n. length (line_of (rows_to rows new n))) again
+            ∙ omega (arith, below, line_to_long rows new last (omega (arith, below)), line_to_long rows new (last + 1) (omega (arith, below)))
 
-        without :
-            {begins' ends' : List ℕ} → RemovedAt begins (held + left) entry.at begins' → RemovedAt ends (held + left) entry.at ends' →
-            SpansOf (rows_to rows new (left - 1)) begins' ends'
-        without first second = record {
-          begins_are =
-              column_removed row_begin begin_none goes few
-              (rw (long, ← with_it, ← spans.begins_are) first);
-          ends_are =
-              column_removed row_end end_none goes few
-              (rw (long, ← with_it, ← spans.ends_are) second);
+        line_without :
+            {line' : Timeline spans_room} → SpanOff line.begins line.ends line.count entry.at line'.begins line'.ends → line'.count + 1 ≡ line.count →
+            LineOf without line'
+        line_without off one_less = record {
+          spans = record {
+            begins_are = column_removed row_begin begin_blank goes without_few (rw (← with_it, ← there.spans.begins_are, ← count_there) off.begins_are);
+            ends_are = column_removed row_end end_blank goes without_few (rw (← with_it, ← there.spans.ends_are, ← count_there) off.ends_are);
+          };
+          count_is = omega (arith, count_there, line_long without);
         }
 
       pub undoing_more :
-          {begins' ends' : List ℕ} → RemovedAt begins (held + left) entry.at begins' →
-          RemovedAt ends (held + left) entry.at ends' → Undoing begins₀ ends₀ own held count begins' ends' (left - 1)
-      undoing_more first second =
-          let most = so_far.at_most in
-          record {
-            at_most = omega arith;
-            begins_long = first.long ∙ so_far.begins_long;
-            ends_long = second.long ∙ so_far.ends_long;
-            is = λ rows new can. without can first second;
-          }
+          {line' : Timeline spans_room} → SpanOff line.begins line.ends line.count entry.at line'.begins line'.ends → line'.count + 1 ≡ line.count →
+          Undoing line₀ own line' (gone + 1)
+      undoing_more off one_less = record {
+        is =
+            λ rows new is few own_is.
+            let same : length own - (gone + 1) ≡ length own - 1 - gone = omega arith in
+            rw same (line_without is few own_is off one_less);
+      }
 
       -- what is asked of each column
-      module _ (ask : AskUndo begins₀ ends₀ own held count) where
-        room : held + left ≤ spans_room
-        room = let same = long ask.undoable in let less = few ask.undoable in omega arith
-
-        within : entry.at < held + left
-        within = let same = long ask.undoable in let most = (goes ask.undoable).within in omega arith
-
-        there : length (all_left ask.undoable) ≤ spans_room
-        there =
-            let n = ask.undoable.count_is in
-            let same = ask.undoable.held_is in
-            let most = so_far.at_most in
-            omega (arith, room, line_to_long ask.rows ask.new left (omega arith))
-
-        pub begins_asked : AskRemoveAt begins (held + left) entry.at
-        begins_asked = record {
-          room = let long = ap length (spans ask.undoable).begins_are ∙ column_long row_begin (all_left ask.undoable) there in omega (arith, room);
-          within = within;
-        }
-
-        pub ends_asked : AskRemoveAt ends (held + left) entry.at
-        ends_asked = record {
-          room = let long = ap length (spans ask.undoable).ends_are ∙ column_long row_end (all_left ask.undoable) there in omega (arith, room);
-          within = within;
-        }
+      pub off_asked : AskOff line.begins line.ends line.count entry.at
+      off_asked =
+          let count = count_there ask.line_is ask.few ask.own_is in
+          let few = without_few ask.line_is ask.few ask.own_is in
+          let on = there ask.line_is ask.few ask.own_is in
+          let within = (goes ask.line_is ask.few ask.own_is).within in
+          let all = line_of (rows_to ask.rows ask.new (length own - gone)) in
+          let all_few : length all ≤ spans_room = omega (arith, on.count_is, line_long (rows_to ask.rows ask.new (length own - gone))) in
+          record {
+            begins_ask = record { room = omega (arith, ap length on.spans.begins_are, column_long row_begin all all_few); within = omega arith };
+            ends_ask = record { room = omega (arith, ap length on.spans.ends_are, column_long row_end all all_few); within = omega arith };
+          }

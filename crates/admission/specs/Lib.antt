@@ -1,2 +1,2 @@
--- What the contracts of admission cite: what a submission over lent columns gives.
+-- What the contracts of admission cite: what a submission over a timetable gives.
 pub mod Submitted

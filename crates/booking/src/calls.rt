@@ -3,9 +3,8 @@ ghost use Rattle.booking.specs.Untouched.{Untouched};
 
 use crate::printing::{print_answer, print_seen};
 use console::Console;
-use reservation::calls::Call;
 use reservation::{Register, Reply};
-use rules::Job;
+use rules::{Answer, Call, Job};
 
 // A fresh register has clock 0, total 0 and no rows.
 pub fn fresh() -> Register {
@@ -21,8 +20,8 @@ fn answered(out: &mut Console, before: Register, reply: Reply) -> Register
     requires { Untouched before reply }
 {
     let Reply { answer, register } = reply;
-    print_answer(out, answer);
-    if answer.number != 0 {
+    print_answer(out, Answer::from(answer));
+    if answer.is_err() {
         prove!(register.clock() == before.clock());
         prove!(register.total() == before.total());
         prove!(register.count() == before.count());

@@ -3,7 +3,7 @@ use crate::calls::fresh;
 use crate::printing::{heading, print_answer};
 use builder::alone;
 use console::Console;
-use rules::Job;
+use rules::{Answer, Job};
 use tally::{Tally, guarantee_ratio, submit_counted};
 use workload::limits::easy;
 use workload::refused::unrunnable;
@@ -27,7 +27,7 @@ fn counted(out: &mut Console, arrived: u32, admitted: u32, jobs: &[Job]) {
     print_tally(out, tally);
     for job in jobs {
         let reply = submit_counted(&mut tally, register, *job);
-        print_answer(out, reply.answer);
+        print_answer(out, Answer::from(reply.answer));
         print_tally(out, tally);
         register = reply.register;
     }

@@ -3,19 +3,20 @@ use crate::calls::{advance, submit, withdraw};
 use crate::printing::{heading, print_answer, print_state};
 use builder::{alone, task};
 use console::Console;
-use reservation::Register;
+use reservation::{Register, Reply};
+use rules::Answer;
 use workload::examples::{one_row, three_rows};
 
 // Jobs of one row, with the numbers from `first` up to `end` and not `end`, or up to the first that is refused, whose answer is printed.
 fn fill(out: &mut Console, register: Register, first: u64, end: u64) -> Register {
     let mut left = register;
     for number in first..end {
-        let reply = left.submit(one_row(number));
-        if reply.answer.number != 0 {
-            print_answer(out, reply.answer);
-            return reply.register;
+        let Reply { answer, register } = left.submit(one_row(number));
+        left = register;
+        if answer.is_err() {
+            print_answer(out, Answer::from(answer));
+            break;
         }
-        left = reply.register;
     }
     left
 }

@@ -1,7 +1,7 @@
 // What is printed: a line for each call, row and register.
 use console::Console;
 use reservation::Register;
-use rules::{Answer, Holder, ROWS, Row, Seen};
+use rules::{Answer, Holder, Row, Seen};
 
 pub fn heading(out: &mut Console, name: &[u8]) {
     out.write(name);
@@ -38,9 +38,12 @@ fn print_holder(out: &mut Console, holder: Holder, job: u64) {
 
 fn print_row(out: &mut Console, row: Row) {
     print_holder(out, row.holder, row.job as u64);
-    let start = row.start;
-    let finish = row.finish;
-    let cost = row.cost;
+    let Row {
+        start,
+        finish,
+        cost,
+        ..
+    } = row;
     out.println(format_args!(" start={start} finish={finish} cost={cost}"));
 }
 
@@ -63,11 +66,7 @@ pub fn print_state(out: &mut Console, register: Register) {
 // The same, then the rows in the order in which they are held.
 pub fn print_register(out: &mut Console, register: Register) {
     print_state(out, register);
-    let count = register.count();
-    let rows = register.rows();
-    for i in 0..ROWS {
-        if i < count {
-            print_row(out, rows[i]);
-        }
+    for row in register.rows().iter().take(register.count()) {
+        print_row(out, *row);
     }
 }

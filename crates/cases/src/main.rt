@@ -2,107 +2,73 @@
 // `script=N` and N bytes, a line `output=M` and M bytes.
 #![tactic(auto)]
 
-ghost use Rattle.std.specs.Prelude.{◌≤◌, length};
-ghost use Rattle.cases.specs.Cases.{PartIs, CaseIs};
+ghost use Rattle.std.specs.Prelude.{◌<◌, length, IfSome};
 
-use lines::line::{DIGITS, begins_with, number};
+use lines::line::{DIGITS, number};
 use script::{OUTPUT, run};
 use std::io;
 use std::io::Read;
 
-// A part of the container: its first byte and the place after its last; or the container is not as its form says.
+// A part of the container: its bytes, and what is left after them.
 #[derive(Clone, Copy)]
-enum Part {
-    Bytes(usize, usize),
-    Ill,
+struct Part<'a> {
+    bytes: &'a [u8],
+    rest: &'a [u8],
 }
 
-// A case: whether the output is the expected one, and the place after it.
+// A case: whether the output is the expected one, and what is left after it.
 #[derive(Clone, Copy)]
-enum Case {
-    Checked(bool, usize),
-    Unread,
+struct Case<'a> {
+    alike: bool,
+    rest: &'a [u8],
 }
 
-// A line with a count, and so many bytes after it.
-fn read_part(text: &[u8], at: usize, key: &[u8]) -> Part
-    requires { at ≤ length text.now }
-    ensures { PartIs (length text.now) at result }
+// A line with a count, and so many bytes after it; none where the container is not as its form says.
+fn read_part<'a>(text: &'a [u8], key: &[u8]) -> Option<Part<'a>>
+    ensures { IfSome result (λ part. length part.rest.now < length text.now) }
 {
-    let rest = &text[at..];
-    if !begins_with(rest, key) {
-        return Part::Ill;
-    }
-    let digits = number(&rest[key.len()..], DIGITS);
-    let width = digits.count;
-    if width == 0 {
-        return Part::Ill;
-    }
-    let from = at + key.len() + width + 1;
-    let left = (text.len() - from) as u64;
-    let count = digits.value;
-    if left < count {
-        return Part::Ill;
-    }
-    Part::Bytes(from, from + count as usize)
+    let line = text.strip_prefix(key)?;
+    let digits = number(line, DIGITS)?;
+    let (bytes, rest) = line[digits.count + 1..].split_at_checked(digits.value as usize)?;
+    Some(Part { bytes, rest })
 }
 
 // Whether the program would write these bytes.
 fn is_expected(input: &[u8], expected: &[u8]) -> bool {
-    let mut output = [0u8; OUTPUT];
+    let mut output = [0; OUTPUT];
     let count = run(input, &mut output);
     &output[..count] == expected
 }
 
-fn next_case(text: &[u8], at: usize) -> Case
-    requires { at ≤ length text.now }
-    ensures { CaseIs (length text.now) at result }
+fn next_case(text: &[u8]) -> Option<Case<'_>>
+    ensures { IfSome result (λ case. length case.rest.now < length text.now) }
 {
-    let first = read_part(text, at, b"script=");
-    let Part::Bytes(from, to) = first else {
-        return Case::Unread;
-    };
-    let second = read_part(text, to, b"output=");
-    let Part::Bytes(start, end) = second else {
-        return Case::Unread;
-    };
-    let alike = is_expected(&text[from..to], &text[start..end]);
-    Case::Checked(alike, end)
-}
-
-fn print_count(rt: &impl Print, key: &[u8], n: u64) -> io::Result<()> {
-    rt.write_all(key)?;
-    println!(rt; "{n}")
-}
-
-// Prints the number of a case that differs, and counts it.
-fn noted(rt: &impl Print, alike: bool, number: u64, different: u64) -> io::Result<u64> {
-    if alike {
-        return Ok(different);
-    }
-    print_count(rt, b"differs=", number)?;
-    if different < 1_000_000 {
-        return Ok(different + 1);
-    }
-    Ok(different)
+    let input = read_part(text, b"script=")?;
+    let expected = read_part(input.rest, b"output=")?;
+    Some(Case {
+        alike: is_expected(input.bytes, expected.bytes),
+        rest: expected.rest,
+    })
 }
 
 // All cases, one after the other.
 fn check_all(rt: &impl Print, text: &[u8]) -> io::Result<()> {
-    let mut at = 0;
+    let mut rest = text;
     let mut cases: u64 = 0;
     let mut different: u64 = 0;
-    while at < text.len() {
-        let case = next_case(text, at);
-        let Case::Checked(alike, next) = case else {
+    while !rest.is_empty() {
+        let Some(case) = next_case(rest) else {
             return println!(rt; "the container is damaged");
         };
-        different = noted(rt, alike, cases, different)?;
+        if !case.alike {
+            println!(rt; "differs={cases}")?;
+            different += 1;
+        }
         cases += 1;
-        at = next;
+        rest = case.rest;
     }
-    print_count(rt, b"cases=", cases)?;
-    print_count(rt, b"different=", different)
+    println!(rt; "cases={cases}")?;
+    println!(rt; "different={different}")
 }
 
 fn main(rt: HostRuntime) -> io::Result<()> {

@@ -4,7 +4,7 @@ use crate::convert::converted;
 use crate::counts::{Counts, answered, differing, holding, seen_booked, seen_idle};
 use reference::{Admission, Book, RefRow, Refusal};
 use reservation::{Register, Reply};
-use rules::{Job, Seen};
+use rules::{Answer, Job, Seen};
 use tally::{Tally, guarantee_ratio};
 use workload::draws::Draws;
 
@@ -62,7 +62,7 @@ pub fn refusal_number<T: Copy>(answer: Result<T, Refusal>) -> u64 {
 fn settled(both: Both, reply: Reply, book: Book, theirs: Result<Admission, Refusal>) -> Both {
     let register = reply.register;
     let counts = both.counts;
-    let ours = reply.answer;
+    let ours = Answer::from(reply.answer);
     let mut more = answered(held_apart(counts, register, &book), ours.number);
     if !same_answer(ours, theirs) {
         more = differing(more, 1);

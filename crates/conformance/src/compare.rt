@@ -1,7 +1,7 @@
 // What the two schedulers answered and hold, compared figure by figure. Each function says whether two values are the same, or counts the differences.
 use reference::{Admission, Book, Link, Machine, RefHolder, RefRow, Refusal, Resource, Tables};
 use reservation::Register;
-use rules::tables::{default_setup, machine_rate, transfer_rate, transfer_time};
+use rules::tables::default_setup;
 use rules::{Answer, Holder, Row, Seen};
 
 pub fn same_answer(ours: Answer, theirs: Result<Admission, Refusal>) -> bool {
@@ -79,10 +79,9 @@ pub fn rows_apart(ours: Register, theirs: &Book, count: usize) -> u64 {
 // The failure rates of the machines.
 pub fn rates_apart(theirs: &Tables) -> u64 {
     let setup = default_setup();
-    let table = setup.table;
-    let mut apart = u64::from(table.machines != 4);
+    let mut apart = u64::from(setup.table.machines != 4);
     for machine in Machine::ALL {
-        let rate = machine_rate(setup, machine.number());
+        let rate = setup.rate(machine.number());
         apart = apart.saturating_add(u64::from(rate != theirs.rate(Resource::Machine(machine))));
     }
     apart
@@ -102,8 +101,8 @@ fn links_from_apart(theirs: &Tables, from: Machine) -> u64 {
     let mut apart: u64 = 0;
     for to in Machine::ALL {
         let link = Link { from, to };
-        let time = transfer_time(setup, from.number(), to.number());
-        let rate = transfer_rate(setup, from.number(), to.number());
+        let time = setup.link_time(from.number(), to.number());
+        let rate = setup.link_rate(from.number(), to.number());
         apart = apart.saturating_add(u64::from(time != theirs.link_time(link)));
         apart = apart.saturating_add(u64::from(rate != theirs.rate(Resource::Link(link))));
     }

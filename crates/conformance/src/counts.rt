@@ -1,12 +1,12 @@
 // What is counted over all lists.
-#[derive(Clone, Copy)]
+#[derive(Clone, Copy, Default)]
 pub struct Counts {
     pub calls: u64,
     // By answer number. Looks that are not refused are counted beside.
     pub answers: [u64; 14],
     pub idle: u64,
     pub booked: u64,
-    // The most rows held, and the calls made with more than 200 rows, with 255 and with 256.
+    // The most rows held, and the calls that left more than 200 rows, 255 and 256.
     pub most: u64,
     pub crowded: u64,
     pub almost_full: u64,
@@ -14,21 +14,6 @@ pub struct Counts {
     // Rows compared, and differences of any kind.
     pub rows: u64,
     pub differences: u64,
-}
-
-pub fn nothing() -> Counts {
-    Counts {
-        calls: 0,
-        answers: [0; 14],
-        idle: 0,
-        booked: 0,
-        most: 0,
-        crowded: 0,
-        almost_full: 0,
-        full: 0,
-        rows: 0,
-        differences: 0,
-    }
 }
 
 // One call more, by its answer number; a number above 13 is none, and a difference.

@@ -12,7 +12,7 @@ mod report;
 
 use compare::{links_apart, rates_apart};
 use console::Console;
-use counts::{Counts, differing, nothing};
+use counts::{Counts, differing};
 use examples::{largest_total, ratios, row_limit};
 use lists::{all_lists, with_wrong_link};
 use reference::Tables;
@@ -27,7 +27,7 @@ fn tables(out: &mut Console, counts: Counts) -> Counts {
 }
 
 fn planted_fault(out: &mut Console) {
-    let counts = with_wrong_link(nothing());
+    let counts = with_wrong_link(Counts::default());
     print_line(
         out,
         b"with a wrong link time in the reference, differences: ",
@@ -43,7 +43,7 @@ fn planted_fault(out: &mut Console) {
 fn main(rt: HostRuntime) -> ExitCode {
     let mut console = Console::new(rt.stdout());
     let out = &mut console;
-    let mut counts = tables(out, nothing());
+    let mut counts = tables(out, Counts::default());
     counts = row_limit(out, counts);
     counts = largest_total(out, counts);
     counts = ratios(out, counts);

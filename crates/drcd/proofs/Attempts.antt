@@ -7,23 +7,26 @@ use native.Mathlib.Nat.{mul-le-mul}
 use Rattle.rules.specs.declared.Row.{Row}
 use Rattle.rules.specs.declared.Job.{Job}
 use Rattle.rules.specs.declared.Setup.{Setup}
-use Rattle.rules.specs.Words.{machine, holds, largest_time, run_time}
+use Rattle.rules.specs.Words.{machine, holds, largest_time, rate, run_time}
 use Rattle.rules.specs.Asked.{HasMachine}
 use Rattle.rules.specs.Placing.{Ground, least_free, spans_on, into, release, message_trials, all_arrived, try}
 use Rattle.rules.specs.Bounds.{Between, largest_rate, largest_cost}
 use Rattle.rules.proofs.Sequences.{sum_append}
 use Rattle.rules.proofs.Numbers.{machine_below}
 use Rattle.rules.proofs.Bounds.{task_figures}
+use Rattle.timeline.specs.declared.line.Timeline.{Timeline}
 use Rattle.timeline.specs.Timeline.{known_machine, tick_limit, AskLeast, LeastIs}
+use Rattle.timeline.specs.RowLine.{spans_room}
 use Rattle.timeline.proofs.Drawing.{drawn_asks}
 use Rattle.timeline.proofs.Agreeing.{drawable_found}
-use Rattle.figures.specs.Tables.{RateIs}
 use Rattle.drcd.specs.declared.TaskTurn.{TaskTurn}
 use Rattle.drcd.specs.declared.Attempt.{Attempt}
+use Rattle.drcd.specs.declared.inputs.Input.{Input}
 use Rattle.drcd.specs.declared.trial.Arrivals.{Arrivals}
 use Rattle.drcd.specs.Trials.{Scene, AskAttempt, TriedIs, rows_upto, IsTrial, AttemptBounds, AttemptIs}
+use Rattle.drcd.proofs.TriedRows.{inputs_all}
 
-module _ {table inputs begins ends : List ℕ} {turn : TaskTurn} {m run : ℕ} (ask : AskAttempt table inputs begins ends turn m run) where
+module _ {s : Setup} {inputs : List Input} {line : Timeline spans_room} {turn : TaskTurn} {m run : ℕ} (ask : AskAttempt s inputs line turn m run) where
   has_machine : HasMachine m
   has_machine =
       let there = ask.inputs_ask.there in
@@ -34,26 +37,24 @@ module _ {table inputs begins ends : List ℕ} {turn : TaskTurn} {m run : ℕ} (
   run_at_most =
       let it = ask.inputs_ask in
       let is = ask.run_is in
-      omega (arith, (task_figures it.setup it.job it.scene.range it.scene.listed).runs m it.there)
+      omega (arith, (task_figures s it.job it.scene.range it.scene.listed).runs m it.there)
 
   -- what the task's own row costs
-  pub own_cost : {rate : ℕ} → RateIs table m rate → rate * run ≤ largest_cost
-  own_cost {rate} rate_is =
-      let it = ask.inputs_ask in
-      let is = rate_is it.setup it.scene.table_is in
-      let most : rate ≤ largest_rate = omega (arith, it.scene.sound.rates m) in
+  pub own_cost : {own : ℕ} → own ≡ rate s m → own * run ≤ largest_cost
+  own_cost {own} rate_is =
+      let most : own ≤ largest_rate = omega (arith, ask.inputs_ask.scene.sound.rates m) in
       mul-le-mul most run_at_most
 
-  module _ {found : Arrivals} (tried : TriedIs table inputs begins ends turn m found) where
-    pub ask_least : AskLeast begins ends turn.used m found.arrived run
+  module _ {found : Arrivals} (tried : TriedIs s inputs line turn m found) where
+    pub ask_least : AskLeast line.begins line.ends line.count m found.arrived run
     ask_least =
         let it = ask.inputs_ask in
         let late = tried.arrived_at_most in
         drawn_asks
         (it.ground.held ++ holds it.new)
-        begins
-        ends
-        turn.used
+        line.begins
+        line.ends
+        line.count
         it.scene.drawn
         m
         found.arrived
@@ -62,14 +63,14 @@ module _ {table inputs begins ends : List ℕ} {turn : TaskTurn} {m run : ℕ} (
         (omega arith)
         (omega (arith, run_at_most))
 
-    module _ {start : ℕ} (least : LeastIs begins ends turn.used m found.arrived run start) {rate : ℕ} (rate_is : RateIs table m rate) where
+    module _ {start : ℕ} (least : LeastIs line.begins line.ends line.count m found.arrived run start) {own : ℕ} (rate_is : own ≡ rate s m) where
       abbrev it : Attempt
-      it = record { cost = found.cost + rate * run; start = start; finish = start + run; starts = found.starts }
+      it = record { cost = found.cost + own * run; start = start; finish = start + run; starts = found.starts }
 
       start_found :
-          (s : Setup) (j : Job) (g : Ground) (new : List Row) → Scene s j g new table inputs begins ends turn →
+          (j : Job) (g : Ground) (new : List Row) → Scene s j g new inputs line turn →
           start ≡ least_free found.arrived run (spans_on (machine m) (g.held ++ holds new))
-      start_found s j g new scene =
+      start_found j g new scene =
           least.is (g.held ++ holds new) (machine m) scene.drawn (known_machine has_machine) refl ask.able
 
       pub figures_fit : AttemptBounds it
@@ -77,39 +78,37 @@ module _ {table inputs begins ends : List ℕ} {turn : TaskTurn} {m run : ℕ} (
           let it = ask.inputs_ask in
           let held = it.ground.held ++ holds it.new in
           let late = tried.arrived_at_most in
-          let is = start_found it.setup it.job it.ground it.new it.scene in
+          let is = start_found it.job it.ground it.new it.scene in
           let early : start ≤ tick_limit
           = omega (arith, drawable_found held it.scene.drawn.drawable (machine m) found.arrived run (omega arith)) in
           let spent = tried.cost_at_most in
           record {
-            long = tried.long;
             cost_at_most = omega (arith, own_cost rate_is);
             start_at_most = early;
             finish_at_most = omega (arith, run_at_most);
           }
 
       is_trial :
-          (s : Setup) (j : Job) (g : Ground) (new : List Row) → Scene s j g new table inputs begins ends turn → Between 1 s.table.machines m →
+          (j : Job) (g : Ground) (new : List Row) → Scene s j g new inputs line turn → Between 1 s.table.machines m →
           run ≡ run_time j (turn.t + 1) m → IsTrial s j g new (turn.t + 1) m it
       unfolding try
-      is_trial s j g new scene there run_is =
+      is_trial j g new scene there run_is =
           let t = turn.t + 1 in
           let ins : List Row = message_trials s g.held j new m [] (into j t) in
           let from : ℕ = all_arrived (new ++ ins) m (release g j new t) (into j t) in
           let start_is : start ≡ least_free from (run_time j t m) (spans_on (machine m) (g.held ++ holds new))
-          = start_found s j g new scene
-          ∙ ap₂ (λ a l. least_free a l (spans_on (machine m) (g.held ++ holds new))) (tried.arrived_is s j g new scene there) run_is in
-          let own = (try s g j new t m).own in
-          let own_cost : rate * run ≡ own.cost = ap₂ (λ a b. a * b) (rate_is s scene.table_is) run_is in
-          let sum = sum_append (λ row. row.cost) ins (own ∷ []) in
-          let was = tried.cost_is s j g new scene there in
+          = start_found j g new scene
+          ∙ ap₂ (λ a l. least_free a l (spans_on (machine m) (g.held ++ holds new))) (tried.arrived_is j g new scene there) run_is in
+          let own_row = (try s g j new t m).own in
+          let own_cost : own * run ≡ own_row.cost = ap₂ (λ a b. a * b) rate_is run_is in
+          let sum = sum_append (λ row. row.cost) ins (own_row ∷ []) in
+          let was = tried.cost_is j g new scene there in
           record {
             cost_is = omega arith;
             start_is = start_is;
             finish_is = ap₂ (λ a b. a + b) start_is run_is;
-            inputs_are =
-                tried.rows_are s j g new scene there ∙ ap (rows_upto s j new m (into j t) found.starts) scene.inputs_are.all;
+            inputs_are = tried.rows_are j g new scene there ∙ ap (rows_upto s j new m (into j t) found.starts) (inputs_all scene);
           }
 
-      pub attempt_is : AttemptIs table inputs begins ends turn m run it
+      pub attempt_is : AttemptIs s inputs line turn m run it
       attempt_is = record { bounds = figures_fit; is = is_trial }

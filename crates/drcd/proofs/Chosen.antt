@@ -1,28 +1,34 @@
 -- The choice among the machines, one after the other: what is kept is the foremost of the good trials so far.
 use mathlib.Core.Path.{◌≡◌, refl, sym, ap, ◌∙◌, subst}
-use mathlib.Core.Bool.{Bool, true, false, not, ◌||◌, ◌&&◌, cond, or-false, and-false}
+use mathlib.Core.Bool.{Bool, true, false, ◌||◌, ◌&&◌, or-false, and-false}
 use mathlib.Core.List.{List, [], ◌∷◌, ◌++◌, map, map-append, append-nil}
 use mathlib.Core.Option.{none, some}
-use Prim.Native.Nat.{ℕ, ◌+◌, ◌≤◌, ◌<◌}
+use mathlib.Core.Option as Rules
+use Prim.Native.Nat.{ℕ, ◌+◌, ◌-◌, ◌≤◌, ◌<◌}
 use native.Mathlib.Omega.{arith}
 use lib.Dec.{ltb, leb, eqb}
+use lib.ListN.{get_or}
 use borrow.Author.Tests.{le-leb, lt-leb, lt-ltb, le-ltb, ne_eqb}
+use Rattle.std.proofs.Common.{Option, Some, None}
 use Rattle.rules.specs.declared.Row.{Row}
+use Rattle.rules.specs.declared.Task.{Task}
 use Rattle.rules.specs.declared.Job.{Job}
 use Rattle.rules.specs.declared.Setup.{Setup}
 use Rattle.rules.specs.Sequences.{cons_if, keep, numbers, precedes, foremost}
-use Rattle.rules.specs.Words.{task_of, run_time}
+use Rattle.rules.specs.Words.{most_tasks, no_task, task_of, run_time}
 use Rattle.rules.specs.Placing.{Ground, Trial, trial_rows, costs, machine_of, try, good, good_trials, choice}
 use Rattle.rules.specs.Bounds.{Between}
-use Rattle.rules.proofs.Sequences.{by_test, clash, keep_append}
-use Rattle.figures.specs.Rows.{RowOf, AskTaskFigure, AskRun}
-use Rattle.figures.specs.declared.jobs.Layout.{Layout}
+use Rattle.rules.proofs.Sequences.{clash, keep_append}
+use Rattle.timeline.specs.declared.line.Timeline.{Timeline}
+use Rattle.timeline.specs.RowLine.{spans_room}
 use Rattle.drcd.specs.declared.TaskTurn.{TaskTurn}
 use Rattle.drcd.specs.declared.Attempt.{Attempt}
 use Rattle.drcd.specs.declared.choice.Kept.{Kept}
-use Rattle.drcd.specs.Given.{JobIs}
+use Rattle.drcd.specs.declared.inputs.Input.{Input}
+use Rattle.drcd.specs.Given.{SomeJob}
 use Rattle.drcd.specs.Trials.{Scene, IsTrial, AskAttempt, AttemptBounds, AttemptIs}
 use Rattle.drcd.specs.Choice.{AskChoose, ChoiceIs}
+use Rattle.drcd.proofs.Listed.{tasks_few, task_at}
 use Rattle.drcd.proofs.Foremost.{later, foremost_more, keep_passing, keep_failing}
 
 -- The order of trials.
@@ -36,8 +42,9 @@ abbrev pub before : (cost start best_cost best_start : ℕ) → Bool
 before cost start best_cost best_start = ltb cost best_cost || (eqb cost best_cost && ltb start best_start)
 
 -- code's test of a trial against what is kept
-abbrev pub comes_first : Attempt → Kept → Bool
-comes_first it kept = not kept.found || before it.cost it.start kept.best.cost kept.best.start
+abbrev pub displaces : Attempt → Option Kept → Bool
+displaces it None = true
+displaces it (Some kept) = before it.cost it.start kept.best.cost kept.best.start
 
 -- on a higher machine it is the rules' order
 before_precedes :
@@ -78,24 +85,51 @@ module _ (s : Setup) (g : Ground) (j : Job) (new : List Row) (t : ℕ) where
   figures_are : (m : ℕ) {it : Attempt} → IsTrial s j g new t m it → figures (tried m) ≡ it.cost ∷ it.start ∷ m ∷ []
   figures_are m its = rw (its.cost_is, its.start_is, its_machine m) refl
 
+  -- the trial of the machine that is kept
+  abbrev pub kept_trial : Option Kept → Rules.Option Trial
+  kept_trial None = none
+  kept_trial (Some kept) = some (tried kept.machine)
+
+  -- what is kept is the trial of one of the first n machines
+  abbrev pub Keeps : (n : ℕ) → Option Kept → Type 0
+  Keeps n None = Unit {0}
+  Keeps n (Some kept) = (kept.machine ≤ n) × IsTrial s j g new t kept.machine kept.best
+
+  keeps_more : (n : ℕ) (kept : Option Kept) → Keeps n kept → Keeps (n + 1) kept
+  keeps_more n None keeps = tt
+  keeps_more n (Some kept) keeps = (omega arith, keeps.1)
+
+  -- the rules' order is code's test
+  module _ (n : ℕ) {it : Attempt} (its : IsTrial s j g new t (n + 1) it) where
+    order : (kept : Kept) → Keeps n (Some kept) → precedes (figures (tried (n + 1))) (figures (tried kept.machine)) ≡ displaces it (Some kept)
+    order kept keeps =
+        let same = before_precedes it.cost it.start (n + 1) kept.best.cost kept.best.start kept.machine (omega arith) in
+        rw (figures_are (n + 1) its, figures_are kept.machine keeps.1) same
+
+    later_stays :
+        (kept : Option Kept) → Keeps n kept → displaces it kept ≡ false → some (later figures (tried (n + 1)) (kept_trial kept)) ≡ kept_trial kept
+    later_stays None keeps e = clash refl e
+    later_stays (Some kept) keeps e = rw (order kept keeps ∙ e) refl
+
+    later_taken : (kept : Option Kept) → Keeps n kept → displaces it kept ≡ true → later figures (tried (n + 1)) (kept_trial kept) ≡ tried (n + 1)
+    later_taken None keeps e = refl
+    later_taken (Some kept) keeps e = rw (order kept keeps ∙ e) refl
+
 -- what is kept is the foremost of them
-pub record IsBest (s : Setup) (g : Ground) (j : Job) (new : List Row) (t n : ℕ) (kept : Kept) : Type 0 where
-  pub among : kept.found ≡ true → kept.machine ≤ n
-  pub none_found : kept.found ≡ false → foremost figures (trials s g j new t n) ≡ none
-  pub one_found :
-      kept.found ≡ true →
-      (foremost figures (trials s g j new t n) ≡ some (try s g j new t kept.machine)) × IsTrial s j g new t kept.machine kept.best
+pub record IsBest (s : Setup) (g : Ground) (j : Job) (new : List Row) (t n : ℕ) (kept : Option Kept) : Type 0 where
+  pub keeps : Keeps s g j new t n kept
+  pub foremost_is : foremost figures (trials s g j new t n) ≡ kept_trial s g j new t kept
 
-best_none : (s : Setup) (g : Ground) (j : Job) (new : List Row) (t : ℕ) (kept : Kept) → kept.found ≡ false → IsBest s g j new t 0 kept
+best_none : (s : Setup) (g : Ground) (j : Job) (new : List Row) (t : ℕ) → IsBest s g j new t 0 None
 unfolding foremost
-best_none s g j new t kept e = record { among = λ h. clash h e; none_found = λ h. refl; one_found = λ h. clash h e }
+best_none s g j new t = record { keeps = tt; foremost_is = refl }
 
-module _ {s : Setup} {g : Ground} {j : Job} {new : List Row} {t n : ℕ} {kept : Kept} (best : IsBest s g j new t n kept) where
+module _ {s : Setup} {g : Ground} {j : Job} {new : List Row} {t n : ℕ} {kept : Option Kept} (best : IsBest s g j new t n kept) where
   abbrev following : Trial
   following = tried s g j new t (n + 1)
 
   best_same : trials s g j new t (n + 1) ≡ trials s g j new t n → IsBest s g j new t (n + 1) kept
-  best_same e = record { among = λ h. let was = best.among h in omega arith; none_found = rw e best.none_found; one_found = rw e best.one_found }
+  best_same e = record { keeps = keeps_more s g j new t n kept best.keeps; foremost_is = rw e best.foremost_is }
 
   best_unable : run_time j t (n + 1) ≡ 0 → IsBest s g j new t (n + 1) kept
   best_unable e = best_same (trials_unable s g j new t n (le-ltb 0 (run_time j t (n + 1)) (omega arith)))
@@ -113,187 +147,137 @@ module _ {s : Setup} {g : Ground} {j : Job} {new : List Row} {t n : ℕ} {kept :
         best_same (rw (with_it, lt-leb it.finish (task_of j t).deadline late) (append-nil (trials s g j new t n)))
 
     module _ (in_time : it.finish ≤ (task_of j t).deadline) where
-      -- the rules' order is code's test
-      first :
-          later figures following (foremost figures (trials s g j new t n))
-          ≡ cond (comes_first it kept) following (tried s g j new t kept.machine)
-      first =
-          by_test
-          kept.found
-          (λ e.
-          let found = best.one_found e in
-          let below = best.among e in
-          let order = before_precedes it.cost it.start (n + 1) kept.best.cost kept.best.start kept.machine (omega arith) in
-          rw (
-            found.0,
-            e,
-            figures_are s g j new t (n + 1) its,
-            figures_are s g j new t kept.machine found.1,
-            order,
-          )
-          refl)
-          (λ e. rw (best.none_found e, e) refl)
-
-      foremost_is :
-          foremost figures (trials s g j new t (n + 1))
-          ≡ some (cond (comes_first it kept) following (tried s g j new t kept.machine))
-      foremost_is =
+      foremost_next : foremost figures (trials s g j new t (n + 1)) ≡ some (later figures following (kept_trial s g j new t kept))
+      foremost_next =
           rw
           (with_it, le-leb it.finish (task_of j t).deadline in_time)
-          (foremost_more figures (trials s g j new t n) following ∙ ap some first)
+          (foremost_more figures (trials s g j new t n) following ∙ ap (λ o. some (later figures following o)) best.foremost_is)
 
-      best_stays : comes_first it kept ≡ false → IsBest s g j new t (n + 1) kept
+      best_stays : displaces it kept ≡ false → IsBest s g j new t (n + 1) kept
       best_stays e =
           record {
-            among = λ h. let was = best.among h in omega arith;
-            none_found = λ h. clash (rw h refl) e;
-            one_found = λ h. (foremost_is ∙ rw e refl, (best.one_found h).1);
+            keeps = keeps_more s g j new t n kept best.keeps;
+            foremost_is = foremost_next ∙ later_stays s g j new t n its kept best.keeps e;
           }
 
-      best_taken : comes_first it kept ≡ true → IsBest s g j new t (n + 1) (record { found = true; machine = n + 1; best = it })
-      best_taken e = record { among = λ h. omega arith; none_found = λ h. clash refl h; one_found = λ h. (foremost_is ∙ rw e refl, its) }
-
--- the row, by the count of machines that its layout has
-pub row_laid : {s : Setup} {j : Job} {row : List ℕ} {layout : Layout} → JobIs s j row layout → RowOf layout.machines j row
-row_laid is = rw is.laid.machines_are is.laid.row_is
+      best_taken : displaces it kept ≡ true → IsBest s g j new t (n + 1) (Some (record { machine = n + 1; best = it }))
+      best_taken e =
+          record {
+            keeps = (omega arith, its);
+            foremost_is = foremost_next ∙ ap some (later_taken s g j new t n its kept best.keeps e);
+          }
 
 -- Machine by machine.
 
-pub record Chosen (row table inputs begins ends : List ℕ) (layout : Layout) (turn : TaskTurn) (kept : Kept) (n : ℕ) : Type 0 where
-  pub within : n ≤ layout.machines
-  pub bounds : AttemptBounds kept.best
-  pub is :
-      (s : Setup) (j : Job) (g : Ground) (new : List Row) → JobIs s j row layout → Scene s j g new table inputs begins ends turn →
-      IsBest s g j new (turn.t + 1) n kept
-
-module _
-    {row table inputs begins ends : List ℕ}
-    {layout : Layout}
-    {turn : TaskTurn}
-    (ask : AskChoose row table inputs begins ends layout turn)
+-- what is kept before a machine is tried
+pub record Chosen (s : Setup) (j : Job) (inputs : List Input) (line : Timeline spans_room) (turn : TaskTurn) (kept : Option Kept) (machine : ℕ) : Type 0
   where
-    abbrev Now : Kept → ℕ → Type 0
-    Now = Chosen row table inputs begins ends layout turn
+    pub passed : ℕ
+    pub next : machine ≡ passed + 1
+    pub within : passed ≤ s.table.machines
+    pub bounds : (k : Kept) → kept ≡ Some k → AttemptBounds k.best
+    pub is : (g : Ground) (new : List Row) → Scene s j g new inputs line turn → IsBest s g j new (turn.t + 1) passed kept
 
-    -- the task and a machine have figures
-    pub its_figures : AskTaskFigure layout.machines turn.t
-    its_figures =
-        let last = ask.scene.listed.last in
-        let few = ask.job_is.laid.row_is.tasks_at_most in
-        record { machines_at_most = rw ask.job_is.laid.machines_are ask.job_is.laid.row_is.machines_at_most; listed = omega arith }
+module _ {s : Setup} {j : Job} {inputs : List Input} {line : Timeline spans_room} {turn : TaskTurn} (ask : AskChoose s j inputs line turn) where
+  abbrev Now : Option Kept → ℕ → Type 0
+  Now = Chosen s j inputs line turn
 
-    pub its_run : {n : ℕ} → n < layout.machines → AskRun layout.machines turn.t n
-    its_run more = record { task = its_figures; machine = more }
+  pub turn_few : turn.t < most_tasks
+  turn_few =
+      let some : SomeJob j = record { setup = s; range = ask.scene.range } in
+      let last = ask.scene.listed.last in
+      omega (arith, tasks_few some)
 
-    listed_in : {s : Setup} {j : Job} {g : Ground} {new : List Row} → Scene s j g new table inputs begins ends turn → turn.t < j.taskcount
-    listed_in scene = let last = scene.listed.last in omega arith
+  pub chosen_none : Now None 1
+  chosen_none = record {
+    passed = 0;
+    next = refl;
+    within = omega arith;
+    bounds = λ k e. absurd (cc);
+    is = λ g new scene. best_none s g j new (turn.t + 1);
+  }
 
-    pub chosen_none : (kept : Kept) → kept.found ≡ false → AttemptBounds kept.best → Now kept 0
-    chosen_none kept e bounds =
-        record { within = omega arith; bounds = bounds; is = λ s j g new job_is scene. best_none s g j new (turn.t + 1) kept e }
-
-    module _ {kept : Kept} {n : ℕ} (sofar : Now kept n) where
-      pub chosen_all : layout.machines ≤ n → ChoiceIs row table inputs begins ends layout turn kept
-      unfolding choice good_trials
-      chosen_all all =
+  module _ {kept : Option Kept} {machine : ℕ} (now : Now kept machine) where
+    pub chosen_all : s.table.machines < machine → ChoiceIs s j inputs line turn kept
+    unfolding choice good_trials
+    chosen_all all = record {
+      bounds = now.bounds;
+      is = λ g new scene.
+          let next = now.next in
+          let within = now.within in
+          let whole : now.passed ≡ s.table.machines = omega arith in
+          let best = rw whole at (now.is g new scene) in
           record {
-            bounds = sofar.bounds;
-            is =
-                λ s j g new job_is scene.
-                let most = sofar.within in
-                let count = job_is.laid.machines_are in
-                let same : n ≡ s.table.machines = omega arith in
-                let best = subst (λ k. IsBest s g j new (turn.t + 1) k kept) same (sofar.is s j g new job_is scene) in
-                record { none_found = best.none_found; one_found = best.one_found };
-          }
+            none_found = λ e. best.foremost_is ∙ ap (kept_trial s g j new (turn.t + 1)) e;
+            one_found = λ k e. (
+              best.foremost_is ∙ ap (kept_trial s g j new (turn.t + 1)) e,
+              (subst (Keeps s g j new (turn.t + 1) s.table.machines) e best.keeps).1,
+            );
+          };
+    }
 
-      module _
-          (more : n < layout.machines) {run : ℕ}
-          (run_is : (j : Job) (s : Setup) → JobIs s j row layout → turn.t < j.taskcount → run ≡ run_time j (turn.t + 1) (n + 1))
-        where
-          pub chosen_unable : run ≡ 0 → Now kept (n + 1)
-          chosen_unable e =
-              record {
-                within = omega arith;
-                bounds = sofar.bounds;
-                is =
-                    λ s j g new job_is scene.
-                    best_unable (sofar.is s j g new job_is scene) (sym (run_is j s job_is (listed_in scene)) ∙ e);
-              }
+    module _ (more : machine ≤ s.table.machines) where
+      abbrev task : Task
+      task = get_or j.tasks turn.t no_task
 
-          there : {s : Setup} {j : Job} → JobIs s j row layout → Between 1 s.table.machines (n + 1)
-          there job_is = let count = job_is.laid.machines_are in record { first = omega arith; last = omega arith }
+      abbrev run : ℕ
+      run = get_or task.runs (machine - 1) 0
 
-          module _ (able : run ≡ 0 → ⊥) where
-            -- what a trial of the next machine asks
-            pub chosen_asks : AskAttempt table inputs begins ends turn (n + 1) run
-            chosen_asks = record {
-              inputs_ask = record {
-                setup = ask.setup;
-                job = ask.job;
-                ground = ask.ground;
-                new = ask.new;
-                scene = ask.scene;
-                there = there ask.job_is;
-              };
-              run_is = run_is ask.job ask.setup ask.job_is (listed_in ask.scene);
-              able = omega (arith, able);
+      there : Between 1 s.table.machines machine
+      there = let next = now.next in record { first = omega arith; last = more }
+
+      further : now.passed + 1 ≤ s.table.machines
+      further = let next = now.next in omega arith
+
+      run_is : run ≡ run_time j (turn.t + 1) machine
+      run_is = ap (λ task. get_or task.runs (machine - 1) 0) (sym (task_at j turn.t))
+
+      run_next : run ≡ run_time j (turn.t + 1) (now.passed + 1)
+      run_next = run_is ∙ ap (run_time j (turn.t + 1)) now.next
+
+      deadline_is : task.deadline ≡ (task_of j (turn.t + 1)).deadline
+      deadline_is = ap (λ task. task.deadline) (sym (task_at j turn.t))
+
+      -- what is kept stays
+      same :
+          ((g : Ground) (new : List Row) → Scene s j g new inputs line turn → IsBest s g j new (turn.t + 1) (now.passed + 1) kept) →
+          Now kept (machine + 1)
+      same is = record { passed = now.passed + 1; next = ap (λ m. m + 1) now.next; within = further; bounds = now.bounds; is = is }
+
+      pub chosen_unable : run ≡ 0 → Now kept (machine + 1)
+      chosen_unable unable = same (λ g new scene. best_unable (now.is g new scene) (sym run_next ∙ unable))
+
+      module _ (able : run ≡ 0 → ⊥) where
+        runs : 1 ≤ run_time j (turn.t + 1) (now.passed + 1)
+        runs = omega (arith, able, run_next)
+
+        -- what a trial of the machine asks
+        pub chosen_asks : AskAttempt s inputs line turn machine run
+        chosen_asks = record {
+          inputs_ask = record { job = j; ground = ask.ground; new = ask.new; scene = ask.scene; there = there };
+          run_is = run_is;
+          able = omega (arith, able);
+        }
+
+        module _ {it : Attempt} (result : AttemptIs s inputs line turn machine run it) where
+          its : {g : Ground} {new : List Row} → Scene s j g new inputs line turn → IsTrial s j g new (turn.t + 1) (now.passed + 1) it
+          its {g} {new} scene = rw now.next at (result.is j g new scene there run_is)
+
+          pub chosen_late : task.deadline < it.finish → Now kept (machine + 1)
+          chosen_late late = same (λ g new scene. best_late (now.is g new scene) runs (its scene) (omega (arith, deadline_is)))
+
+          module _ (in_time : it.finish ≤ task.deadline) where
+            timely : it.finish ≤ (task_of j (turn.t + 1)).deadline
+            timely = omega (arith, deadline_is)
+
+            pub chosen_stays : displaces it kept ≡ false → Now kept (machine + 1)
+            chosen_stays e = same (λ g new scene. best_stays (now.is g new scene) runs (its scene) timely e)
+
+            pub chosen_taken : displaces it kept ≡ true → Now (Some (record { machine = machine; best = it })) (machine + 1)
+            chosen_taken e = record {
+              passed = now.passed + 1;
+              next = ap (λ m. m + 1) now.next;
+              within = further;
+              bounds = λ k e. subst AttemptBounds (cc) result.bounds;
+              is = λ g new scene. rw now.next (best_taken (now.is g new scene) runs (its scene) timely e);
             }
-
-            module _ {it : Attempt} (result : AttemptIs table inputs begins ends turn (n + 1) run it) where
-              module _ {s : Setup} {j : Job} {g : Ground} {new : List Row} (job_is : JobIs s j row layout)
-                  (scene : Scene s j g new table inputs begins ends turn) where
-                runs : 1 ≤ run_time j (turn.t + 1) (n + 1)
-                runs = let is = run_is j s job_is (listed_in scene) in omega (arith, able)
-
-                its : IsTrial s j g new (turn.t + 1) (n + 1) it
-                its = result.is s j g new scene (there job_is) (run_is j s job_is (listed_in scene))
-
-              module _
-                  {deadline : ℕ}
-                  (deadline_is : (j : Job) (s : Setup) → JobIs s j row layout → turn.t < j.taskcount → deadline ≡ (task_of j (turn.t + 1)).deadline)
-                where
-                  pub chosen_late : deadline < it.finish → Now kept (n + 1)
-                  chosen_late late =
-                      record {
-                        within = omega arith;
-                        bounds = sofar.bounds;
-                        is =
-                            λ s j g new job_is scene.
-                            let same = deadline_is j s job_is (listed_in scene) in
-                            best_late (sofar.is s j g new job_is scene) (runs job_is scene) (its job_is scene) (omega arith);
-                      }
-
-                  module _ (in_time : it.finish ≤ deadline) {first : Bool} (test : first ≡ comes_first it kept) where
-                    timely : {s : Setup} {j : Job} → JobIs s j row layout → turn.t < j.taskcount → it.finish ≤ (task_of j (turn.t + 1)).deadline
-                    timely {s} {j} job_is listed = let same = deadline_is j s job_is listed in omega arith
-
-                    pub chosen_stays : first ≡ false → Now kept (n + 1)
-                    chosen_stays e =
-                        record {
-                          within = omega arith;
-                          bounds = sofar.bounds;
-                          is =
-                              λ s j g new job_is scene.
-                              best_stays
-                              (sofar.is s j g new job_is scene)
-                              (runs job_is scene)
-                              (its job_is scene)
-                              (timely job_is (listed_in scene))
-                              (sym test ∙ e);
-                        }
-
-                    pub chosen_taken : first ≡ true → Now (record { found = true; machine = n + 1; best = it }) (n + 1)
-                    chosen_taken e =
-                        record {
-                          within = omega arith;
-                          bounds = result.bounds;
-                          is =
-                              λ s j g new job_is scene.
-                              best_taken
-                              (sofar.is s j g new job_is scene)
-                              (runs job_is scene)
-                              (its job_is scene)
-                              (timely job_is (listed_in scene))
-                              (sym test ∙ e);
-                        }

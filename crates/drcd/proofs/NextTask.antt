@@ -1,63 +1,57 @@
 -- Which task is next: task by task, the one kept is the foremost of those that are ready among the first ones.
-use mathlib.Core.Logic.{◌≢◌}
 use mathlib.Core.Path.{◌≡◌, refl, sym, ap, ◌∙◌}
-use mathlib.Core.Bool.{Bool, true, false, not, and-false}
+use mathlib.Core.Bool.{Bool, true, false, and-false}
 use mathlib.Core.List.{List, [], ◌∷◌}
 use mathlib.Core.Option.{some}
-use Prim.Native.Nat.{ℕ, zero, suc, ◌+◌, ◌-◌, ◌≤◌, ◌<◌}
+use Prim.Native.Nat.{ℕ, ◌+◌, ◌-◌, ◌≤◌, ◌<◌}
 use native.Mathlib.Omega.{arith}
-use lib.Dec.{eqb, ltb}
 use lib.ListN.{get_or}
-use borrow.Author.Tests.{eqb-true, eqb-false, lt-ltb, le-ltb, not-true, not-false}
+use borrow.Author.Tests.{not-true, not-false}
+use Rattle.std.proofs.Common.{Option, Some, None}
+use Rattle.std.specs.Prelude.{is_some}
 use Rattle.rules.specs.declared.Row.{Row}
 use Rattle.rules.specs.declared.Job.{Job}
-use Rattle.rules.specs.declared.Setup.{Setup}
 use Rattle.rules.specs.Sequences.{keep, numbers, precedes, foremost}
-use Rattle.rules.specs.Words.{most_tasks, messages_of, task_of}
-use Rattle.rules.specs.Asked.{named}
+use Rattle.rules.specs.Words.{most_tasks, task_of}
 use Rattle.rules.specs.Placing.{placed, ready, next_task}
-use Rattle.rules.proofs.Sequences.{by_test}
+use Rattle.rules.proofs.Sequences.{clash}
 use Rattle.rules.proofs.Choice.{false_precedes, lower_precedes}
-use Rattle.figures.specs.Rows.{DeadlineIs}
-use Rattle.figures.specs.declared.jobs.Layout.{Layout}
-use Rattle.drcd.specs.Given.{JobIs, StandsFor}
-use Rattle.drcd.specs.Order.{WaitsIs, NextReadyIs}
-use Rattle.drcd.proofs.JobFigures.{task_below, task_few, deadline_read}
+use Rattle.drcd.specs.declared.order.Spot.{Spot}
+use Rattle.drcd.specs.Given.{SomeJob, StandsFor}
+use Rattle.drcd.specs.Order.{WaitsIs, task_named, NextReadyIs}
+use Rattle.drcd.proofs.Listed.{tasks_few}
 use Rattle.drcd.proofs.Foremost.{later, foremost_more, keep_passing, keep_failing}
-use Rattle.drcd.proofs.Waiting.{all_placed}
 
 abbrev figures : Job → ℕ → List ℕ
 figures j t = (task_of j t).deadline ∷ t ∷ []
 
--- the foremost of those ready among the first t tasks, or 0
-pub record Best (row : List ℕ) (layout : Layout) (machines : List ℕ) (best deadline t : ℕ) : Type 0 where
-  pub within : t ≤ layout.tasks
-  pub among : best ≤ t
-  pub its : (s : Setup) (j : Job) → JobIs s j row layout → best ≢ 0 → deadline ≡ (task_of j best).deadline
-  pub is_best :
-      (s : Setup) (j : Job) (new : List Row) (finishes : List ℕ) → JobIs s j row layout → StandsFor new machines finishes →
-      named best ≡ foremost (figures j) (keep (ready j new) (numbers 1 t))
+-- what is known of the task kept, by its index: it is among the first so many, and its deadline is the earliest
+abbrev Keeps : Job → Option ℕ → (earliest t : ℕ) → Type 0
+Keeps j None earliest t = Unit {0}
+Keeps j (Some b) earliest t = (b < t) × (earliest ≡ (task_of j (b + 1)).deadline)
 
-pub best_none : (row : List ℕ) (layout : Layout) (machines : List ℕ) → Best row layout machines 0 0 0
+-- it is the foremost of those ready among the first t tasks
+pub record Best (j : Job) (spots : List (Option Spot)) (best : Option ℕ) (earliest t : ℕ) : Type 0 where
+  pub few : j.taskcount ≤ most_tasks
+  pub keeps : Keeps j best earliest t
+  pub is_best : (new : List Row) → StandsFor new spots → task_named best ≡ foremost (figures j) (keep (ready j new) (numbers 1 t))
+
+pub best_none : {j : Job} (spots : List (Option Spot)) → SomeJob j → Best j spots None 0 0
 unfolding foremost
-best_none row layout machines = record {
-  within = omega arith;
-  among = omega arith;
-  its = λ s j job ne. absurd (ne refl);
-  is_best = λ s j new finishes job stands. refl;
-}
+best_none spots asked = record { few = tasks_few asked; keeps = tt; is_best = λ new stands. refl }
 
-next_some : {t : ℕ} → t ≢ 0 → named t ≡ some t
-next_some {t = zero} ne = absurd (ne refl)
-next_some {t = suc t} ne = refl
+pub best_found :
+    {j : Job} {spots : List (Option Spot)} {best : Option ℕ} {earliest : ℕ} → Best j spots best earliest j.taskcount → NextReadyIs j spots best
+unfolding next_task
+best_found sofar = sofar.is_best
 
 -- whether the task after the first t is placed
 placed_next :
-    {new : List Row} {machines finishes : List ℕ} → StandsFor new machines finishes → (t : ℕ) → t < most_tasks →
-    placed new (t + 1) ≡ ltb 0 (get_or machines t 0)
-placed_next {machines = machines} stands t h =
+    {new : List Row} {spots : List (Option Spot)} → StandsFor new spots → (t : ℕ) → t < most_tasks →
+    placed new (t + 1) ≡ is_some (get_or spots t None)
+placed_next {spots = spots} stands t h =
     let same : t + 1 - 1 ≡ t = omega arith in
-    stands.placed_is (t + 1) (record { first = omega arith; last = omega arith }) ∙ ap (λ i. ltb 0 (get_or machines i 0)) same
+    stands.placed_is (t + 1) (record { first = omega arith; last = omega arith }) ∙ ap (λ i. is_some (get_or spots i None)) same
 
 -- a task of a higher number and no earlier deadline does not precede
 no_earlier :
@@ -65,89 +59,73 @@ no_earlier :
     precedes (figures j (t + 1)) (figures j best) ≡ false
 no_earlier j t best h k = false_precedes _ _ _ _ k (λ e. false_precedes (t + 1) best [] [] (omega arith) (λ q. absurd (omega arith)))
 
-module _ {row : List ℕ} {layout : Layout} {machines : List ℕ} {best deadline t : ℕ} (sofar : Best row layout machines best deadline t) where
-  pub best_found : layout.tasks ≤ t → NextReadyIs row layout machines best
-  unfolding next_task
-  best_found all = λ s j new finishes job stands.
-      let same : t ≡ j.taskcount = let count = job.laid.tasks_are in let w = sofar.within in omega arith in
-      sofar.is_best s j new finishes job stands ∙ ap (λ n. foremost (figures j) (keep (ready j new) (numbers 1 n))) same
+keeps_more : (j : Job) (best : Option ℕ) (earliest t : ℕ) → Keeps j best earliest t → Keeps j best earliest (t + 1)
+keeps_more j None earliest t keeps = tt
+keeps_more j (Some b) earliest t keeps = (omega arith, keeps.1)
 
-  module _ (more : t < layout.tasks) where
-    best_unready :
-        ((s : Setup) (j : Job) (new : List Row) (finishes : List ℕ) → JobIs s j row layout → StandsFor new machines finishes →
-        ready j new (t + 1) ≡ false) →
-        Best row layout machines best deadline (t + 1)
+-- one kept before the next task stays if it is no later, and else the next is taken
+stays :
+    (j : Job) (best : Option ℕ) (earliest t : ℕ) → Keeps j best earliest t → is_some best ≡ true → earliest ≤ (task_of j (t + 1)).deadline →
+    some (later (figures j) (t + 1) (task_named best)) ≡ task_named best
+stays j None earliest t keeps found late = clash found refl
+stays j (Some b) earliest t keeps found late = rw (no_earlier j t (b + 1) (omega arith) (omega arith)) refl
+
+first :
+    (j : Job) (best : Option ℕ) (earliest t : ℕ) → Keeps j best earliest t → (is_some best ≡ true → (task_of j (t + 1)).deadline < earliest) →
+    later (figures j) (t + 1) (task_named best) ≡ t + 1
+first j None earliest t keeps soon = refl
+first j (Some b) earliest t keeps soon =
+    let early = soon refl in
+    let sooner : (task_of j (t + 1)).deadline < (task_of j (b + 1)).deadline = omega arith in
+    rw (lower_precedes _ _ ((t + 1) ∷ []) ((b + 1) ∷ []) sooner) refl
+
+module _ {j : Job} {spots : List (Option Spot)} {best : Option ℕ} {earliest t : ℕ} (sofar : Best j spots best earliest t)
+    (listed : t < j.taskcount)
+  where
+    next_is : {new : List Row} → StandsFor new spots → placed new (t + 1) ≡ is_some (get_or spots t None)
+    next_is stands = let few = sofar.few in placed_next stands t (omega arith)
+
+    best_unready : ((new : List Row) → StandsFor new spots → ready j new (t + 1) ≡ false) → Best j spots best earliest (t + 1)
     best_unready known = record {
-      within = omega arith;
-      among = let a = sofar.among in omega arith;
-      its = sofar.its;
-      is_best = λ s j new finishes job stands.
-          rw (keep_failing (ready j new) t (known s j new finishes job stands)) (sofar.is_best s j new finishes job stands);
+      few = sofar.few;
+      keeps = keeps_more j best earliest t sofar.keeps;
+      is_best = λ new stands. rw (keep_failing (ready j new) t (known new stands)) (sofar.is_best new stands);
     }
 
-    pub best_placed : get_or machines t 0 ≢ 0 → Best row layout machines best deadline (t + 1)
+    pub best_placed : is_some (get_or spots t None) ≡ true → Best j spots best earliest (t + 1)
     unfolding ready
-    best_placed ne =
-        best_unready (λ s j new finishes job stands.
-        rw (placed_next stands t (task_few job more) ∙ lt-ltb 0 (get_or machines t 0) (omega (arith, ne))) refl)
+    best_placed there = best_unready (λ new stands. rw (next_is stands, there) refl)
 
-    module _ {waits : List Bool} (waiting : WaitsIs row layout machines waits) where
-      waits_next :
-          (s : Setup) (j : Job) (new : List Row) (finishes : List ℕ) → JobIs s j row layout → StandsFor new machines finishes →
-          get_or waits t false ≡ not (all_placed new (t + 1) (messages_of j))
-      waits_next s j new finishes job stands = waiting.is s j new finishes job stands t (task_below job more)
-
-      pub best_waits : get_or waits t false ≡ true → Best row layout machines best deadline (t + 1)
+    module _ (waits : List Bool) (waiting : WaitsIs j spots waits) where
+      pub best_waits : get_or waits t false ≡ true → Best j spots best earliest (t + 1)
       unfolding ready
-      best_waits e =
-          best_unready (λ s j new finishes job stands.
-          rw (not-true (all_placed new (t + 1) (messages_of j)) (sym (waits_next s j new finishes job stands) ∙ e), and-false) refl)
+      best_waits e = best_unready (λ new stands. rw (not-true _ (sym (waiting new stands t listed) ∙ e), and-false) refl)
 
-      module _ (unplaced : get_or machines t 0 ≡ 0) (goes : get_or waits t false ≡ false) {its : ℕ} (reads : DeadlineIs row layout.machines t its) where
-        is_ready :
-            (s : Setup) (j : Job) (new : List Row) (finishes : List ℕ) → JobIs s j row layout → StandsFor new machines finishes →
-            ready j new (t + 1) ≡ true
+      module _ (unplaced : is_some (get_or spots t None) ≡ false) (goes : get_or waits t false ≡ false) where
+        is_ready : (new : List Row) → StandsFor new spots → ready j new (t + 1) ≡ true
         unfolding ready
-        is_ready s j new finishes job stands =
-            let own = placed_next stands t (task_few job more) ∙ le-ltb 0 (get_or machines t 0) (omega arith) in
-            rw (own, not-false (all_placed new (t + 1) (messages_of j)) (sym (waits_next s j new finishes job stands) ∙ goes)) refl
+        is_ready new stands = rw (next_is stands, unplaced, not-false _ (sym (waiting new stands t listed) ∙ goes)) refl
 
         with_more :
-            (s : Setup) (j : Job) (new : List Row) (finishes : List ℕ) → JobIs s j row layout → StandsFor new machines finishes →
-            foremost (figures j) (keep (ready j new) (numbers 1 (t + 1))) ≡ some (later (figures j) (t + 1) (named best))
-        with_more s j new finishes job stands =
+            (new : List Row) → StandsFor new spots →
+            foremost (figures j) (keep (ready j new) (numbers 1 (t + 1))) ≡ some (later (figures j) (t + 1) (task_named best))
+        with_more new stands =
             rw
-            (keep_passing (ready j new) t (is_ready s j new finishes job stands), sofar.is_best s j new finishes job stands)
+            (keep_passing (ready j new) t (is_ready new stands), sofar.is_best new stands)
             (foremost_more (figures j) (keep (ready j new) (numbers 1 t)) (t + 1))
 
-        pub best_kept : best ≢ 0 → deadline ≤ its → Best row layout machines best deadline (t + 1)
-        best_kept ne h = record {
-          within = omega arith;
-          among = let a = sofar.among in omega arith;
-          its = sofar.its;
-          is_best = λ s j new finishes job stands.
-              let was = sofar.its s j job ne in
-              let own = deadline_read job more reads in
-              let behind = no_earlier j t best sofar.among (omega arith) in
-              next_some ne ∙ sym (with_more s j new finishes job stands ∙ rw (next_some ne, behind) refl);
-        }
+        module _ {deadline : ℕ} (deadline_is : deadline ≡ (task_of j (t + 1)).deadline) where
+          pub best_kept : is_some best ≡ true → earliest ≤ deadline → Best j spots best earliest (t + 1)
+          best_kept found late = record {
+            few = sofar.few;
+            keeps = keeps_more j best earliest t sofar.keeps;
+            is_best = λ new stands. sym (stays j best earliest t sofar.keeps found (omega arith)) ∙ sym (with_more new stands);
+          }
 
-        pub best_taken : (best ≢ 0 → its < deadline) → Best row layout machines (t + 1) its (t + 1)
-        best_taken h = record {
-          within = omega arith;
-          among = omega arith;
-          its = λ s j job ne. deadline_read job more reads;
-          is_best = λ s j new finishes job stands. next_some (omega arith) ∙ sym (with_more s j new finishes job stands ∙ ap some (first s j job));
-        }
-          where
-            first : (s : Setup) (j : Job) → JobIs s j row layout → later (figures j) (t + 1) (named best) ≡ t + 1
-            first s j job =
-                by_test
-                (eqb best 0)
-                (λ e. rw (eqb-true best 0 e) refl)
-                (λ e.
-                let ne = eqb-false best 0 e in
-                let was = sofar.its s j job ne in
-                let lower = h ne in
-                let earlier : (task_of j (t + 1)).deadline < (task_of j best).deadline = omega (arith, deadline_read job more reads) in
-                rw (next_some ne, lower_precedes _ _ ((t + 1) ∷ []) (best ∷ []) earlier) refl)
+          pub best_taken : (is_some best ≡ true → deadline < earliest) → Best j spots (Some t) deadline (t + 1)
+          best_taken soon = record {
+            few = sofar.few;
+            keeps = (omega arith, deadline_is);
+            is_best = λ new stands.
+                sym (with_more new stands ∙ ap some (first j best earliest t sofar.keeps (λ h. let early = soon h in omega arith)));
+          }

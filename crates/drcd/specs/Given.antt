@@ -1,5 +1,5 @@
--- Between functions: what the lent figures say of a job, and what is known of the tasks placed so far.
-use Rattle.std.specs.Prelude.{◌≡◌, true, List, ℕ, ◌-◌, ltb, get_or}
+-- Between functions: a job in range, and what is known of the tasks placed so far.
+use Rattle.std.specs.Prelude.{◌≡◌, List, ℕ, ◌-◌, get_or, Option, Some, None, is_some}
 use Rattle.rules.specs.declared.Row.{Row}
 use Rattle.rules.specs.declared.Job.{Job}
 use Rattle.rules.specs.declared.Setup.{Setup}
@@ -7,21 +7,18 @@ use Rattle.rules.specs.Words.{most_tasks}
 use Rattle.rules.specs.Placing.{placed, task_row, machine_for}
 use Rattle.rules.specs.Bounds.{Between}
 use Rattle.rules.specs.Demands.{InRange}
-use Rattle.figures.specs.Layouts.{LaidOut}
-use Rattle.figures.specs.declared.jobs.Layout.{Layout}
+use Rattle.drcd.specs.declared.order.Spot.{Spot}
 
--- the row is that of a job in range, laid out so
-pub record JobIs (s : Setup) (j : Job) (row : List ℕ) (layout : Layout) : Type 0 where
-  pub range : InRange s j
-  pub laid : LaidOut s.table.machines j row layout
-
-pub record SomeJob (row : List ℕ) (layout : Layout) : Type 0 where
+pub record SomeJob (j : Job) : Type 0 where
   pub setup : Setup
-  pub job : Job
-  pub is : JobIs setup job row layout
+  pub range : InRange setup j
 
--- for each task its machine, 0 while it is not placed, and its finish: what they say of the rows booked so far
-pub record StandsFor (new : List Row) (machines finishes : List ℕ) : Type 0 where
-  pub placed_is : (t : ℕ) → Between 1 most_tasks t → placed new t ≡ ltb 0 (get_or machines (t - 1) 0)
-  pub machine_is : (t : ℕ) → Between 1 most_tasks t → placed new t ≡ true → machine_for new t ≡ get_or machines (t - 1) 0
-  pub finish_is : (t : ℕ) → Between 1 most_tasks t → placed new t ≡ true → (task_row new t).finish ≡ get_or finishes (t - 1) 0
+-- the spot of a task, by its number
+abbrev pub spot_of : List (Option Spot) → ℕ → Option Spot
+spot_of spots t = get_or spots (t - 1) None
+
+-- what the spots say of the rows booked so far
+pub record StandsFor (new : List Row) (spots : List (Option Spot)) : Type 0 where
+  pub placed_is : (t : ℕ) → Between 1 most_tasks t → placed new t ≡ is_some (spot_of spots t)
+  pub machine_is : (t : ℕ) (spot : Spot) → Between 1 most_tasks t → spot_of spots t ≡ Some spot → machine_for new t ≡ spot.machine
+  pub finish_is : (t : ℕ) (spot : Spot) → Between 1 most_tasks t → spot_of spots t ≡ Some spot → (task_row new t).finish ≡ spot.finish

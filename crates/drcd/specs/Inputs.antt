@@ -1,32 +1,15 @@
--- Between functions: the messages into the task of a turn, four figures each in one row.
-use Rattle.std.specs.Prelude.{◌≡◌, true, ℕ, ◌+◌, ◌*◌, ◌≤◌, ◌<◌, length, get_or}
-use mathlib.Core.List.{List, Memᴰ}
+-- Between functions: the messages into the task of a turn.
+use Rattle.std.specs.Prelude.{◌≡◌, ℕ, ◌+◌, ◌<◌, Option, IsSome}
+use mathlib.Core.List.{List, map, Memᴰ}
 use Rattle.rules.specs.declared.Row.{Row}
 use Rattle.rules.specs.declared.Message.{Message}
 use Rattle.rules.specs.declared.Job.{Job}
-use Rattle.rules.specs.declared.Setup.{Setup}
-use Rattle.rules.specs.Words.{most_messages}
-use Rattle.rules.specs.Placing.{placed, task_row, machine_for, into}
-use Rattle.figures.specs.declared.jobs.Layout.{Layout}
+use Rattle.rules.specs.Placing.{task_row, machine_for, into}
 use Rattle.drcd.specs.declared.inputs.Input.{Input}
-use Rattle.drcd.specs.Given.{JobIs, SomeJob, StandsFor}
+use Rattle.drcd.specs.declared.order.Spot.{Spot}
+use Rattle.drcd.specs.Given.{SomeJob, StandsFor, spot_of}
 
-abbrev pub input_size : ℕ
-input_size = 4
-
-abbrev pub inputs_room : ℕ
-inputs_room = most_messages * input_size
-
--- the figures at an index
-abbrev pub nth_input : List ℕ → ℕ → Input
-nth_input inputs i = record {
-  sender = get_or inputs (i * input_size) 0;
-  source = get_or inputs (i * input_size + 1) 0;
-  done = get_or inputs (i * input_size + 2) 0;
-  volume = get_or inputs (i * input_size + 3) 0;
-}
-
--- what they are of a message, beside the rows booked so far
+-- what is known of a message beside the rows booked so far
 abbrev pub input_of : List Row → Message → Input
 input_of new msg = record {
   sender = msg.sender;
@@ -35,28 +18,14 @@ input_of new msg = record {
   volume = msg.volume;
 }
 
-pub record AskPut (inputs : List ℕ) (i : ℕ) : Type 0 where
-  pub long : length inputs ≡ inputs_room
-  pub within : i < most_messages
+-- the inputs are those of the messages into a task, in their order
+abbrev pub InputsOf : Job → (new : List Row) → (t : ℕ) → List Input → Type 0
+InputsOf j new t inputs = inputs ≡ map (input_of new) (into j t)
 
-pub record InputPut (inputs : List ℕ) (i : ℕ) (input : Input) (inputs' : List ℕ) : Type 0 where
-  pub long : length inputs' ≡ inputs_room
-  pub here : nth_input inputs' i ≡ input
-  pub others : (k : ℕ) → k < i → nth_input inputs' k ≡ nth_input inputs k
+pub record AskGather (j : Job) (t : ℕ) (spots : List (Option Spot)) : Type 0 where
+  pub job : SomeJob j
+  pub listed : t < j.taskcount
+  pub senders_placed : (msg : Message) → Memᴰ msg (into j (t + 1)) → IsSome (spot_of spots msg.sender)
 
-pub record AskGather (row : List ℕ) (layout : Layout) (t : ℕ) (inputs : List ℕ) : Type 0 where
-  pub job : SomeJob row layout
-  pub listed : t < layout.tasks
-  pub long : length inputs ≡ inputs_room
-
--- the first so many are those of the messages into a task, in their order
-pub record InputsOf (j : Job) (new : List Row) (t : ℕ) (inputs : List ℕ) (count : ℕ) : Type 0 where
-  pub all : count ≡ length (into j t)
-  pub at_most : count ≤ most_messages
-  pub each : (i : ℕ) → i < count → (none : Message) → nth_input inputs i ≡ input_of new (get_or (into j t) i none)
-
-pub record GatheredIs (row : List ℕ) (layout : Layout) (t : ℕ) (machines finishes inputs : List ℕ) (count : ℕ) : Type 0 where
-  pub long : length inputs ≡ inputs_room
-  pub is :
-      (s : Setup) (j : Job) (new : List Row) → JobIs s j row layout → StandsFor new machines finishes →
-      ((msg : Message) → Memᴰ msg (into j (t + 1)) → placed new msg.sender ≡ true) → InputsOf j new (t + 1) inputs count
+abbrev pub GatheredIs : Job → (t : ℕ) → List (Option Spot) → List Input → Type 0
+GatheredIs j t spots inputs = (new : List Row) → StandsFor new spots → InputsOf j new (t + 1) inputs

@@ -12,10 +12,13 @@ use Rattle.rules.specs.Placing.{message_trials, all_arrived, costs, trial_rows, 
 use Rattle.rules.specs.Laws.{IsTask}
 use Rattle.rules.specs.Bounds.{Sound, Between, largest_link_time, largest_cost}
 use Rattle.rules.specs.Demands.{InRange}
-use Rattle.timeline.specs.Timeline.{Drawn, tick_limit}
-use Rattle.figures.specs.Tables.{TableOf}
+use Rattle.timeline.specs.Timeline.{tick_limit}
+use Rattle.timeline.specs.Lines.{DrawnOn}
+use Rattle.timeline.specs.RowLine.{spans_room}
+use Rattle.timeline.specs.declared.line.Timeline.{Timeline}
 use Rattle.drcd.specs.declared.TaskTurn.{TaskTurn}
 use Rattle.drcd.specs.declared.Attempt.{Attempt}
+use Rattle.drcd.specs.declared.inputs.Input.{Input}
 use Rattle.drcd.specs.declared.trial.Crossing.{Crossing}
 use Rattle.drcd.specs.declared.trial.Sent.{Sent}
 use Rattle.drcd.specs.declared.trial.Arrivals.{Arrivals}
@@ -34,52 +37,50 @@ link_ticks s c = link_time s c.source c.target * c.volume
 abbrev pub hold_sent : Crossing → Sent → Hold
 hold_sent c r = record { on = link c.source c.target; span = record { start = r.start; finish = r.finish } }
 
-pub record AskSend (table begins ends : List ℕ) (used : ℕ) (tried_begins tried_ends : List ℕ) (count : ℕ) (c : Crossing) : Type 0 where
-  pub setup : Setup
+pub record AskSend (s : Setup) (line : Timeline spans_room) (tried : Timeline most_messages) (c : Crossing) : Type 0 where
   pub held : List Hold
-  pub tried : List Hold
-  pub sound : Sound setup
-  pub table_is : TableOf setup table
-  pub drawn : Drawn held begins ends used
-  pub drawn_tried : Drawn tried tried_begins tried_ends count
-  pub begins_long : length tried_begins ≡ most_messages
-  pub ends_long : length tried_ends ≡ most_messages
-  pub few : count < most_messages
+  pub holds_tried : List Hold
+  pub sound : Sound s
+  pub drawn : DrawnOn held line
+  pub drawn_tried : DrawnOn holds_tried tried
+  pub few : tried.count < most_messages
+  pub begins_long : length tried.begins ≡ most_messages
+  pub ends_long : length tried.ends ≡ most_messages
   pub held_end : (h : Hold) → Memᴰ h held → h.span.finish ≤ horizon
-  pub tried_end : (h : Hold) → Memᴰ h tried → h.span.finish ≤ reach count
-  pub source : Between 1 setup.table.machines c.source
-  pub target : Between 1 setup.table.machines c.target
+  pub tried_end : (h : Hold) → Memᴰ h holds_tried → h.span.finish ≤ reach tried.count
+  pub source : Between 1 s.table.machines c.source
+  pub target : Between 1 s.table.machines c.target
   pub other : c.source ≡ c.target → ⊥
   pub done : c.done ≤ horizon
   pub some : 1 ≤ c.volume
   pub volume : c.volume ≤ largest_volume
 
-pub record SentIs (table begins ends : List ℕ) (used : ℕ) (tried_begins tried_ends : List ℕ) (count : ℕ) (c : Crossing)
-    (tried_begins' tried_ends' : List ℕ) (r : Sent) : Type 0 where
-  pub begins_long : length tried_begins' ≡ most_messages
-  pub ends_long : length tried_ends' ≡ most_messages
+pub record SentIs (s : Setup) (line : Timeline spans_room) (tried : Timeline most_messages) (c : Crossing) (tried' : Timeline most_messages) (r : Sent) :
+    Type 0 where
+  pub count_is : tried'.count ≡ tried.count + 1
+  pub begins_long : length tried'.begins ≡ length tried.begins
+  pub ends_long : length tried'.ends ≡ length tried.ends
   pub lasts : r.start < r.finish
-  pub by : r.finish ≤ reach (count + 1)
+  pub by : r.finish ≤ reach (tried.count + 1)
   pub cost_at_most : r.cost ≤ largest_cost
-  -- for every table and all holds that they are drawn of
+  pub finish_is : r.finish ≡ r.start + link_ticks s c
+  pub cost_is : r.cost ≡ link_rate s c.source c.target * link_ticks s c
+  -- for all holds that they are drawn of
   pub start_is :
-      (s : Setup) (held tried : List Hold) → TableOf s table → Drawn held begins ends used → Drawn tried tried_begins tried_ends count →
-      r.start ≡ least_free c.done (link_ticks s c) (spans_on (link c.source c.target) (held ++ tried))
-  pub finish_is : (s : Setup) → TableOf s table → r.finish ≡ r.start + link_ticks s c
-  pub cost_is : (s : Setup) → TableOf s table → r.cost ≡ link_rate s c.source c.target * link_ticks s c
-  pub joins : (tried : List Hold) → Drawn tried tried_begins tried_ends count → Drawn (tried ++ (hold_sent c r ∷ [])) tried_begins' tried_ends' (count + 1)
+      (held holds_tried : List Hold) → DrawnOn held line → DrawnOn holds_tried tried →
+      r.start ≡ least_free c.done (link_ticks s c) (spans_on (link c.source c.target) (held ++ holds_tried))
+  pub joins : (holds_tried : List Hold) → DrawnOn holds_tried tried → DrawnOn (holds_tried ++ (hold_sent c r ∷ [])) tried'
 
 -- The turn of a task.
 
--- what is lent is that of a setup and its table, of what is held and booked so far, and of the messages into the task
-pub record Scene (s : Setup) (j : Job) (g : Ground) (new : List Row) (table inputs begins ends : List ℕ) (turn : TaskTurn) : Type 0 where
+-- the timeline is that of what is held and booked so far, and the inputs are those of the messages into the task
+pub record Scene (s : Setup) (j : Job) (g : Ground) (new : List Row) (inputs : List Input) (line : Timeline spans_room) (turn : TaskTurn) : Type 0 where
   pub sound : Sound s
   pub range : InRange s j
-  pub table_is : TableOf s table
-  pub drawn : Drawn (g.held ++ holds new) begins ends turn.used
+  pub drawn : DrawnOn (g.held ++ holds new) line
   pub held_end : (h : Hold) → Memᴰ h (g.held ++ holds new) → h.span.finish ≤ horizon
   pub listed : IsTask j (turn.t + 1)
-  pub inputs_are : InputsOf j new (turn.t + 1) inputs turn.inputs
+  pub inputs_are : InputsOf j new (turn.t + 1) inputs
   pub release_is : turn.release ≡ release g j new (turn.t + 1)
   pub release_at_most : turn.release ≤ reach 0
   pub senders_placed : (msg : Message) → Memᴰ msg (into j (turn.t + 1)) → placed new msg.sender ≡ true
@@ -88,13 +89,12 @@ pub record Scene (s : Setup) (j : Job) (g : Ground) (new : List Row) (table inpu
   -- no message into the task has a row yet
   pub none_ahead : (msg : Message) → Memᴰ msg (into j (turn.t + 1)) → any_of (books_message msg) new ≡ false
 
-pub record AskInputs (table inputs begins ends : List ℕ) (turn : TaskTurn) (m : ℕ) : Type 0 where
-  pub setup : Setup
+pub record AskInputs (s : Setup) (inputs : List Input) (line : Timeline spans_room) (turn : TaskTurn) (m : ℕ) : Type 0 where
   pub job : Job
   pub ground : Ground
   pub new : List Row
-  pub scene : Scene setup job ground new table inputs begins ends turn
-  pub there : Between 1 setup.table.machines m
+  pub scene : Scene s job ground new inputs line turn
+  pub there : Between 1 s.table.machines m
 
 -- the message at an index, and its row at a start, if it takes one
 abbrev pub no_message : Message
@@ -112,25 +112,24 @@ module _ (s : Setup) (j : Job) (new : List Row) (m : ℕ) (msgs : List Message) 
   rows_upto zero = []
   rows_upto (suc i) = rows_upto i ++ message_row_at i
 
-pub record TriedIs (table inputs begins ends : List ℕ) (turn : TaskTurn) (m : ℕ) (r : Arrivals) : Type 0 where
-  pub long : length r.starts ≡ most_messages
+pub record TriedIs (s : Setup) (inputs : List Input) (line : Timeline spans_room) (turn : TaskTurn) (m : ℕ) (r : Arrivals) : Type 0 where
   pub arrived_at_most : r.arrived ≤ reach most_messages
   pub cost_at_most : r.cost ≤ most_messages * largest_cost
   pub rows_are :
-      (s : Setup) (j : Job) (g : Ground) (new : List Row) → Scene s j g new table inputs begins ends turn → Between 1 s.table.machines m →
-      message_trials s g.held j new m [] (into j (turn.t + 1)) ≡ rows_upto s j new m (into j (turn.t + 1)) r.starts turn.inputs
+      (j : Job) (g : Ground) (new : List Row) → Scene s j g new inputs line turn → Between 1 s.table.machines m →
+      message_trials s g.held j new m [] (into j (turn.t + 1)) ≡ rows_upto s j new m (into j (turn.t + 1)) r.starts (length inputs)
   pub arrived_is :
-      (s : Setup) (j : Job) (g : Ground) (new : List Row) → Scene s j g new table inputs begins ends turn → Between 1 s.table.machines m →
+      (j : Job) (g : Ground) (new : List Row) → Scene s j g new inputs line turn → Between 1 s.table.machines m →
       r.arrived
       ≡ all_arrived (new ++ message_trials s g.held j new m [] (into j (turn.t + 1))) m (release g j new (turn.t + 1)) (into j (turn.t + 1))
   pub cost_is :
-      (s : Setup) (j : Job) (g : Ground) (new : List Row) → Scene s j g new table inputs begins ends turn → Between 1 s.table.machines m →
+      (j : Job) (g : Ground) (new : List Row) → Scene s j g new inputs line turn → Between 1 s.table.machines m →
       r.cost ≡ costs (message_trials s g.held j new m [] (into j (turn.t + 1)))
 
 -- A trial.
 
-pub record AskAttempt (table inputs begins ends : List ℕ) (turn : TaskTurn) (m run : ℕ) : Type 0 where
-  pub inputs_ask : AskInputs table inputs begins ends turn m
+pub record AskAttempt (s : Setup) (inputs : List Input) (line : Timeline spans_room) (turn : TaskTurn) (m run : ℕ) : Type 0 where
+  pub inputs_ask : AskInputs s inputs line turn m
   pub run_is : run ≡ run_time inputs_ask.job (turn.t + 1) m
   pub able : 1 ≤ run
 
@@ -142,13 +141,12 @@ pub record IsTrial (s : Setup) (j : Job) (g : Ground) (new : List Row) (t m : �
   pub inputs_are : (try s g j new t m).inputs ≡ rows_upto s j new m (into j t) it.starts (length (into j t))
 
 pub record AttemptBounds (it : Attempt) : Type 0 where
-  pub long : length it.starts ≡ most_messages
   pub cost_at_most : it.cost ≤ (most_messages + 1) * largest_cost
   pub start_at_most : it.start ≤ tick_limit
   pub finish_at_most : it.finish ≤ tick_limit + largest_time
 
-pub record AttemptIs (table inputs begins ends : List ℕ) (turn : TaskTurn) (m run : ℕ) (it : Attempt) : Type 0 where
+pub record AttemptIs (s : Setup) (inputs : List Input) (line : Timeline spans_room) (turn : TaskTurn) (m run : ℕ) (it : Attempt) : Type 0 where
   pub bounds : AttemptBounds it
   pub is :
-      (s : Setup) (j : Job) (g : Ground) (new : List Row) → Scene s j g new table inputs begins ends turn → Between 1 s.table.machines m →
-      run ≡ run_time j (turn.t + 1) m → IsTrial s j g new (turn.t + 1) m it
+      (j : Job) (g : Ground) (new : List Row) → Scene s j g new inputs line turn → Between 1 s.table.machines m → run ≡ run_time j (turn.t + 1) m →
+      IsTrial s j g new (turn.t + 1) m it

@@ -1,92 +1,55 @@
 // The choice among the machines: the good trial of lowest cost, then of earliest start, then of lowest machine.
-ghost use Rattle.std.specs.Prelude.{◌≡◌, ◌||◌, ◌&&◌, not, false, ltb, eqb};
-ghost use Rattle.drcd.specs.Trials.{AttemptBounds};
+ghost use Rattle.std.specs.Prelude.{◌≡◌, ◌||◌, ◌&&◌, ltb, eqb};
 ghost use Rattle.drcd.specs.Choice.{AskChoose, ChoiceIs};
 
-use crate::inputs::INPUTS;
+use crate::inputs::Inputs;
 use crate::trial::attempt;
 use crate::{Attempt, TaskTurn};
-use figures::jobs::{Layout, deadline_of, run_of};
-use figures::tables::TABLE;
-use rules::MESSAGES;
-use texts::job::FIGURES;
+use rules::{Job, Setup};
+use timeline::SPANS;
+use timeline::line::Timeline;
 
-// The trial kept, if there is one, and its machine.
-#[derive(Clone, Copy)]
+// The trial that is kept, and its machine.
+#[derive(Clone, Copy, PartialEq, Eq)]
 pub struct Kept {
-    pub found: bool,
     pub machine: u64,
     pub best: Attempt,
 }
 
-// Nothing is kept yet.
-fn nothing() -> Kept
-    ensures found_value { result.found ≡ false }
-    ensures attempt_bounds { AttemptBounds result.best }
-{
-    let starts = [0; MESSAGES];
-    Kept {
-        found: false,
-        machine: 0,
-        best: Attempt {
-            cost: 0,
-            start: 0,
-            finish: 0,
-            starts: starts,
-        },
-    }
-}
-
 // Machines are tried in ascending order, so at equal cost and start the one kept stays.
-fn comes_first(found: bool, cost: u64, start: u64, best_cost: u64, best_start: u64) -> bool
-    ensures { result ≡ not found || (ltb cost best_cost || (eqb cost best_cost && ltb start best_start)) }
+fn comes_first(tried: &Attempt, kept: &Attempt) -> bool
+    ensures { result ≡ (ltb tried.now.cost kept.now.cost || (eqb tried.now.cost kept.now.cost && ltb tried.now.start kept.now.start)) }
 {
-    if !found {
-        return true;
-    }
-    if cost < best_cost {
-        return true;
-    }
-    if best_cost < cost {
-        return false;
-    }
-    start < best_start
+    tried.cost < kept.cost || (tried.cost == kept.cost && tried.start < kept.start)
 }
 
-pub fn choose<'a>(
-    row: &'a [u64; FIGURES],
-    table: &'a [u64; TABLE],
-    inputs: &'a [u64; INPUTS],
-    begins: &'a [u64],
-    ends: &'a [u64],
-    layout: Layout,
+pub fn choose(
+    setup: &Setup,
+    job: &Job,
+    inputs: &Inputs,
+    line: &Timeline<SPANS>,
     turn: TaskTurn,
-) -> Kept
-    requires { AskChoose row.now table.now inputs.now begins.now ends.now layout turn }
-    ensures { ChoiceIs row.now table.now inputs.now begins.now ends.now layout turn result }
+) -> Option<Kept>
+    requires { AskChoose setup.now job.now inputs.now.items line.now turn }
+    ensures { ChoiceIs setup.now job.now inputs.now.items line.now turn result }
 {
-    let deadline = deadline_of(row, layout.machines, turn.t);
-    let mut kept = nothing();
-    let mut m: usize = 0;
-    while m < layout.machines {
-        let run = run_of(row, layout.machines, turn.t, m);
-        m += 1;
+    let task = &job.tasks[turn.t];
+    let mut kept: Option<Kept> = None;
+    for machine in 1..=setup.table.machines {
+        let run = task.runs[machine as usize - 1];
         if run == 0 {
             continue;
         }
-        let tried = attempt(table, inputs, begins, ends, turn, m as u64, run);
-        if deadline < tried.finish {
+        let best = attempt(setup, inputs, line, turn, machine, run);
+        if task.deadline < best.finish {
             continue;
         }
-        let best = kept.best;
-        if !comes_first(kept.found, tried.cost, tried.start, best.cost, best.start) {
+        if let Some(other) = &kept
+            && !comes_first(&best, &other.best)
+        {
             continue;
         }
-        kept = Kept {
-            found: true,
-            machine: m as u64,
-            best: tried,
-        };
+        kept = Some(Kept { machine, best });
     }
     kept
 }

@@ -2,52 +2,49 @@
 ghost use Rattle.drcd.specs.Given.{SomeJob};
 ghost use Rattle.drcd.specs.Order.{WaitsIs, NextReadyIs};
 
-use figures::jobs::{Layout, deadline_of, receiver_of, sender_of};
-use rules::TASKS;
-use texts::job::FIGURES;
+use rules::{Job, TASKS};
+
+// Where a task is placed: its machine, and its finish there.
+#[derive(Clone, Copy, PartialEq, Eq)]
+pub struct Spot {
+    pub machine: u64,
+    pub finish: u64,
+}
+
+// The spot of each task that is placed, by its index.
+pub type Spots = [Option<Spot>; TASKS];
 
 // The tasks that wait: some message into them has a sender that is not placed.
-fn waiting<'a>(row: &'a [u64; FIGURES], layout: Layout, machines: &'a [u64; TASKS]) -> [bool; TASKS]
-    requires { SomeJob row.now layout }
-    ensures { WaitsIs row.now layout machines.now result }
+fn waiting(job: &Job, spots: &Spots) -> [bool; TASKS]
+    requires { SomeJob job.now }
+    ensures { WaitsIs job.now spots.now result }
 {
     let mut waits = [false; TASKS];
-    let mut i = 0;
-    while i < layout.messages {
-        let sender = (sender_of(row, layout.at, i) - 1) as usize;
-        if machines[sender] == 0 {
-            let receiver = (receiver_of(row, layout.at, i) - 1) as usize;
-            waits[receiver] = true;
+    for message in &job.messages[..job.messagecount as usize] {
+        if spots[message.sender as usize - 1].is_none() {
+            waits[message.receiver as usize - 1] = true;
         }
-        i += 1;
     }
     waits
 }
 
-// Of the tasks that are ready the one with the earliest deadline, then the lowest number; 0 if none is.
-pub fn next_ready<'a>(row: &'a [u64; FIGURES], layout: Layout, machines: &'a [u64; TASKS]) -> u64
-    requires { SomeJob row.now layout }
-    ensures { NextReadyIs row.now layout machines.now result }
+// Of the tasks that are ready the one with the earliest deadline, then the lowest number, by its index.
+pub fn next_ready(job: &Job, spots: &Spots) -> Option<usize>
+    requires { SomeJob job.now }
+    ensures { NextReadyIs job.now spots.now result }
 {
-    let waits = waiting(row, layout, machines);
-    let mut best: u64 = 0;
-    let mut deadline: u64 = 0;
-    let mut t: usize = 0;
-    while t < layout.tasks {
-        let at = t;
-        t += 1;
-        if machines[at] != 0 {
+    let waits = waiting(job, spots);
+    let mut best = None;
+    let mut earliest = 0;
+    for t in 0..job.taskcount as usize {
+        if spots[t].is_some() || waits[t] {
             continue;
         }
-        if waits[at] {
-            continue;
+        let deadline = job.tasks[t].deadline;
+        if best.is_none() || deadline < earliest {
+            best = Some(t);
+            earliest = deadline;
         }
-        let its = deadline_of(row, layout.machines, at);
-        if best != 0 && deadline <= its {
-            continue;
-        }
-        best = t as u64;
-        deadline = its;
     }
     best
 }

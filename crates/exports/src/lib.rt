@@ -2,7 +2,9 @@
 #![tactic(auto)]
 
 ghost use Rattle.texts.specs.Reader.{default_machines};
-ghost use Rattle.texts.specs.Writer.{WritesFigures};
+ghost use Rattle.texts.specs.Forms.{written};
+ghost use Rattle.texts.specs.JobText.{job_form};
+ghost use Rattle.texts.specs.Writer.{WritesSo, unfilled_number};
 ghost use Rattle.script.specs.Contract.{Runs};
 
 use rules::DEFAULT_MACHINES;
@@ -21,10 +23,17 @@ pub extern "C" fn register_run(input: &[u8], output: &mut [u8; OUTPUT]) -> usize
 // refusal, goes to `length`.
 #[unsafe(no_mangle)]
 pub extern "C" fn register_write_job(figures: &[u64], output: &mut [u8], length: &mut usize) -> u64
-    ensures { WritesFigures default_machines figures.now output.old output.new
-        (record { number = result; length = length.new }) }
+    ensures { WritesSo (unfilled_number default_machines figures.now) (written (job_form default_machines) figures.now)
+        output.old output.new result length.new }
 {
-    let written = write_figures(figures, figures.len(), DEFAULT_MACHINES as u64, output);
-    *length = written.length;
-    written.number
+    match write_figures(figures, DEFAULT_MACHINES as u64, output) {
+        Ok(written) => {
+            *length = written;
+            0
+        }
+        Err(unwritten) => {
+            *length = 0;
+            unwritten.number()
+        }
+    }
 }

@@ -7,14 +7,14 @@ use native.Mathlib.Nat.{pow-suc}
 use native.Mathlib.Omega.{arith}
 use lib.Dec.{ltb, leb, eqb}
 use lib.ListN.{length, get_or, length-append, get_or-append}
-use borrow.Author.Tests.{ltb-true, leb-true, eqb-true, lt-ltb, le-ltb, le-leb, ne_eqb, eq-eqb}
+use borrow.Author.Tests.{eqb-true, lt-ltb, le-ltb, le-leb, ne_eqb, eq-eqb}
 use Rattle.rules.specs.Sequences.{all_of}
 use Rattle.rules.proofs.Sequences.{by_test, clash, and_true, and_both, or_left, or_right, by_less}
 use Rattle.lines.specs.Figures.{zero_digit, is_digit, value_after, value, digits_within, decimal}
 use Rattle.lines.specs.Lines.{most_digits, largest_figure, well_written}
 use Rattle.lines.specs.Parts.{word_digits}
 use Rattle.lines.specs.Laws.{DecimalSteps, DecimalSays, DecimalOnly}
-use Rattle.lines.proofs.Digits.{digit_yes}
+use Rattle.lines.proofs.Digits.{digit_yes, digit_bounds}
 
 module _ (most n : ℕ) where
   -- one digit is enough, or it is not
@@ -169,12 +169,6 @@ decimal_well_written most n h =
     (rw (ne_eqb (get_or (decimal n) 0 0) zero_digit (leading_digit n (omega arith))) refl)))
 
 -- They are the only well-written digits that say the number.
-
-pub digit_bounds : (b : ℕ) → is_digit b ≡ true → (zero_digit ≤ b) × (b < zero_digit + 10)
-unfolding is_digit
-digit_bounds b e =
-    let both = and_true (leb zero_digit b) (ltb b (zero_digit + 10)) e in
-    (leb-true zero_digit b both.0, ltb-true b (zero_digit + 10) both.1)
 
 -- digits after a number that is not 0
 decimal_after : (n : ℕ) (ds : List ℕ) → 1 ≤ n → all_of is_digit ds ≡ true → decimal (value_after n ds) ≡ decimal n ++ ds

@@ -6,6 +6,5 @@ pub mod Standing
 pub mod LineLaws
 pub mod Scanned
 pub mod Numbers
-pub mod KeyRow
 pub mod Lined
 pub mod Put

@@ -4,37 +4,13 @@ use mathlib.Core.List.{List, [], ◌∷◌, ◌++◌, append_assoc, append-nil}
 use Prim.Native.Nat.{ℕ, suc, ◌+◌, ◌-◌, ◌/◌, ◌%◌, ◌^◌, ◌≤◌, ◌<◌}
 use native.Mathlib.Nat.{add-zero}
 use native.Mathlib.Omega.{arith}
-use native.Mathlib.Numerals.{add-one}
-use lib.ListN.{length, get_or, take, drop, set, length-append, length-take, length-drop, length-set, take-append-drop}
-use lib.Seq.{paste, paste-zero, paste-suc, take-length, take-suc, take_at, drop-drop, set_at, drop-append-add}
+use lib.ListN.{length, get_or, take, drop, set, length-append, length-take, length-drop, take-append-drop}
+use lib.Seq.{take-suc, take_at, drop-drop, set_at, drop-append-add}
+use Rattle.rules.proofs.Sequences.{by_less}
 use Rattle.lines.specs.Figures.{zero_digit, decimal, line_feed, field}
 use Rattle.lines.specs.Parts.{word_digits}
 use Rattle.lines.specs.Put.{overwritten, Puts}
 use Rattle.lines.proofs.Decimals.{decimal_small, decimal_step, decimal_some, word_length, small_length, step_length}
-
--- Bytes copied one by one.
-
-pub record Copied (old : List ℕ) (at : ℕ) (bytes new : List ℕ) (i : ℕ) : Type 0 where
-  pub new_is : new ≡ paste old at bytes i
-  pub at_most : i ≤ length bytes
-  pub long : length new ≡ length old
-
-pub copied_none : (old : List ℕ) (at : ℕ) (bytes : List ℕ) → Copied old at bytes old 0
-copied_none old at bytes = record { new_is = paste-zero old at bytes; at_most = omega arith; long = refl }
-
-module _ {old : List ℕ} {at : ℕ} {bytes new : List ℕ} {i : ℕ} (w : Copied old at bytes new i) where
-  pub copied_more : at + length bytes ≤ length old → i < length bytes → Copied old at bytes (set new (at + i) (get_or bytes i 0)) (i + 1)
-  copied_more room h =
-      record {
-        new_is = rw (w.new_is, add-one i) (paste-suc old at bytes i 0 (omega arith) h);
-        at_most = omega arith;
-        long = length-set new (at + i) (get_or bytes i 0) ∙ w.long;
-      }
-
-  pub copied_all : length bytes ≤ i → Puts old at bytes new (at + length bytes)
-  copied_all h =
-      let all : i ≡ length bytes = let m = w.at_most in omega arith in
-      record { new_is = w.new_is ∙ rw (all, take-length bytes) refl; next_is = refl }
 
 -- Pieces written one after the other.
 
@@ -110,14 +86,14 @@ field_length key n = let a = length-append (key ++ decimal n) (line_feed ∷ [])
 module _
     (key : List ℕ) (n : ℕ) {old mid : List ℕ} {at start : ℕ} (room : at + length (field key n) ≤ length old) (p : Puts old at key mid start)
   where
-    pub figure_room : start + length (decimal n) ≤ length mid
+    figure_room : start + length (decimal n) ≤ length mid
     figure_room = let f = field_length key n in let l = puts_long p (omega arith) in let s = p.next_is in omega arith
 
     module _ {last : List ℕ} {end : ℕ} (q : Puts mid start (decimal n) last end) where
-      pub field_long : length last ≡ length old
+      field_long : length last ≡ length old
       field_long = puts_long q figure_room ∙ puts_long p (let f = field_length key n in omega arith)
 
-      pub feed_room : end < length last
+      feed_room : end < length last
       feed_room = let f = field_length key n in let l = field_long in let s = p.next_is in let e = q.next_is in omega arith
 
       pub field_puts : Puts old at (field key n) (set last end line_feed) (end + 1)
@@ -139,61 +115,43 @@ module _ {n rest count : ℕ} (w : WidthSoFar n rest count) where
   pub count_bound : n < 2 ^ 64 → count ≤ word_digits
   count_bound h = let a = w.in_all in let s = decimal_some rest in let l = word_length n h in omega arith
 
--- The digits of a number from the last to the first: those of `rest` are still to come.
+-- The digits of a number from the last to the first: those up to the place i are still to come, and they are those of `rest`.
 
 pub record Digits (old : List ℕ) (at n : ℕ) (new : List ℕ) (i rest : ℕ) : Type 0 where
+  pub coming : List ℕ
   pub behind : List ℕ
-  pub number_is : decimal n ≡ decimal rest ++ behind
-  pub place_is : i ≡ at + length (decimal rest)
+  pub number_is : decimal n ≡ coming ++ behind
+  pub place_is : i ≡ at + length coming
+  pub coming_is : at < i → coming ≡ decimal rest
   pub new_is : new ≡ overwritten old i behind
-  pub long : length new ≡ length old
 
-pub digits_none : (old : List ℕ) (at n : ℕ) → at + length (decimal n) ≤ length old → Digits old at n old (at + length (decimal n)) n
-digits_none old at n h =
-    record {
-      behind = [];
-      number_is = sym (append-nil (decimal n));
-      place_is = refl;
-      new_is = (put_none old (at + length (decimal n)) h).new_is;
-      long = refl;
-    }
-
-module _ {old : List ℕ} {at n : ℕ} {new : List ℕ} {i rest : ℕ} (w : Digits old at n new i rest) (room : at + length (decimal n) ≤ length old) where
-  -- there is a place for the next digit
-  pub digit_place : (at < i) × (i ≤ length new)
-  digit_place =
-      let p = w.place_is in
-      let s = decimal_some rest in
-      let l = ap length w.number_is ∙ length-append (decimal rest) w.behind in
-      let g = w.long in
-      (omega arith, omega arith)
-
-  pub digits_more : 10 ≤ rest → Digits old at n (set new (i - 1) (zero_digit + rest % 10)) (i - 1) (rest / 10)
-  digits_more h =
-      let place = digit_place in
-      let g = w.long in
-      let one : i ≡ suc (i - 1) = omega arith in
-      record {
-        behind = (zero_digit + rest % 10) ∷ w.behind;
-        number_is = w.number_is ∙ rw (decimal_step rest h) (append_assoc (decimal (rest / 10)) ((zero_digit + rest % 10) ∷ []) w.behind);
-        place_is = let p = w.place_is in let s = step_length rest h in omega arith;
-        new_is =
-            ap (λ l. set l (i - 1) (zero_digit + rest % 10)) (w.new_is ∙ ap (λ k. overwritten old k w.behind) one)
-            ∙ back_one old (i - 1) (zero_digit + rest % 10) w.behind (omega arith);
-        long = length-set new (i - 1) (zero_digit + rest % 10) ∙ w.long;
-      }
-
-  pub digits_all : rest < 10 → Puts old at (decimal n) (set new at (zero_digit + rest)) (at + length (decimal n))
-  digits_all h =
-      let small = decimal_small rest h in
-      let place = digit_place in
-      let g = w.long in
-      let whole : decimal n ≡ (zero_digit + rest) ∷ w.behind = w.number_is ∙ ap (λ l. l ++ w.behind) small in
-      let one : i ≡ suc at = let p = w.place_is in let s = ap length small in omega arith in
-      record {
-        new_is =
-            ap (λ l. set l at (zero_digit + rest)) (w.new_is ∙ ap (λ k. overwritten old k w.behind) one)
-            ∙ back_one old at (zero_digit + rest) w.behind (omega arith)
-            ∙ ap (overwritten old at) (sym whole);
-        next_is = refl;
-      }
+module _ {old : List ℕ} {at n : ℕ} {new : List ℕ} {i rest : ℕ} (w : Digits old at n new i rest) where
+  pub digits_more : i ≤ length old → at < i → Digits old at n (set new (i - 1) (zero_digit + rest % 10)) (i - 1) (rest / 10)
+  digits_more room h =
+      by_less
+      rest
+      10
+      (λ l.
+      let one : rest % 10 ≡ rest = omega arith in
+      step [] (decimal_small rest l ∙ ap (λ k. (zero_digit + k) ∷ []) (sym one)) (λ some. absurd (omega arith)))
+      (λ l. step (decimal (rest / 10)) (decimal_step rest l) (λ some. refl))
+    where
+      step :
+          (front : List ℕ) → decimal rest ≡ front ++ ((zero_digit + rest % 10) ∷ []) → (1 ≤ length front → front ≡ decimal (rest / 10)) →
+          Digits old at n (set new (i - 1) (zero_digit + rest % 10)) (i - 1) (rest / 10)
+      step front e f =
+          let last : w.coming ≡ front ++ ((zero_digit + rest % 10) ∷ []) = w.coming_is h ∙ e in
+          let one : i ≡ suc (i - 1) = omega arith in
+          let before : i - 1 ≡ at + length front =
+          let p = w.place_is in let l = ap length last in let a = length-append front ((zero_digit + rest % 10) ∷ []) in omega arith
+          in
+          record {
+            coming = front;
+            behind = (zero_digit + rest % 10) ∷ w.behind;
+            number_is = w.number_is ∙ ap (λ l. l ++ w.behind) last ∙ append_assoc front ((zero_digit + rest % 10) ∷ []) w.behind;
+            place_is = before;
+            coming_is = λ k. f (omega arith);
+            new_is =
+                ap (λ l. set l (i - 1) (zero_digit + rest % 10)) (w.new_is ∙ ap (λ k. overwritten old k w.behind) one)
+                ∙ back_one old (i - 1) (zero_digit + rest % 10) w.behind (omega arith);
+          }

@@ -1,11 +1,13 @@
 -- Between functions: keys and due lines as the code has them.
-use Rattle.std.specs.Prelude.{List, ℕ, zero, suc}
+use Rattle.std.specs.Prelude.{List, ℕ, Some, None}
+use Rattle.std.specs.Prelude as Code
 use Rattle.std.proofs.Math.Option.{Option, none, some}
 use Rattle.lines.specs.declared.keys.Key.{Key}
 use Rattle.lines.specs.declared.keys.Key.TheVariants as K
 use Rattle.lines.specs.declared.line.DueLine.{DueLine}
 use Rattle.lines.specs.Figures.{bytes}
 use Rattle.lines.specs.Lines.{Due}
+use Rattle.lines.specs.Readings.{fault_number}
 
 abbrev pub key_bytes : Key → List ℕ
 key_bytes K.Job = bytes "job="
@@ -20,24 +22,9 @@ key_bytes K.To = bytes "to="
 key_bytes K.Volume = bytes "volume="
 key_bytes K.Tick = bytes "tick="
 
--- where each key stands in the row of all keys
-abbrev pub start_of_key : Key → ℕ
-start_of_key K.Job = 0
-start_of_key K.Sched = 4
-start_of_key K.Tasks = 10
-start_of_key K.Deadline = 16
-start_of_key K.Dispatch = 25
-start_of_key K.Run = 34
-start_of_key K.Messages = 38
-start_of_key K.From = 47
-start_of_key K.To = 52
-start_of_key K.Volume = 55
-start_of_key K.Tick = 62
-
--- 0 says that no figure is excepted
-abbrev pub excepted : ℕ → Option ℕ
-excepted zero = none
-excepted (suc n) = some (suc n)
+abbrev pub excepted : Code.Option ℕ → Option ℕ
+excepted None = none
+excepted (Some n) = some n
 
 abbrev pub due_of : DueLine → Due
 due_of d = record {
@@ -46,5 +33,5 @@ due_of d = record {
   least = d.least;
   most = d.most;
   except = excepted d.except;
-  refuses = d.refuses;
+  refuses = fault_number d.refuses;
 }

@@ -1,5 +1,6 @@
 -- Between functions: what the parts of a line ask and answer.
-use Rattle.std.specs.Prelude.{◌≡◌, true, false, List, ℕ, ◌+◌, ◌≤◌, ◌<◌, length}
+use Rattle.std.specs.Prelude.{◌≡◌, true, false, List, ℕ, ◌+◌, ◌≤◌, ◌<◌, length, Some, None}
+use Rattle.std.specs.Prelude as Code
 use Rattle.lines.specs.declared.keys.Key.{Key}
 use Rattle.lines.specs.declared.line.Digits.{Digits}
 use Rattle.lines.specs.declared.line.DueLine.{DueLine}
@@ -20,10 +21,13 @@ pub record ScanIs (text : List ℕ) (most : ℕ) (r : Digits) : Type 0 where
   pub few : length (leading_digits text) ≤ most → (r.count ≡ length (leading_digits text)) × (r.value ≡ value (leading_digits text))
   pub many : most < length (leading_digits text) → r.count ≡ most + 1
 
-pub record NumberIs (text : List ℕ) (most : ℕ) (r : Digits) : Type 0 where
-  pub ill_written : is_number most text ≡ false → r.count ≡ 0
-  pub good : is_number most text ≡ true → (r.count ≡ length (leading_digits text)) × (r.value ≡ value (leading_digits text))
-  pub some : is_number most text ≡ true → (1 ≤ r.count) × (r.count + 1 ≤ length text)
+-- the digits, where a number is well-written
+pub record NumberIs (text : List ℕ) (most : ℕ) (r : Code.Option Digits) : Type 0 where
+  pub ill_written : is_number most text ≡ false → r ≡ None
+  pub good :
+      is_number most text ≡ true →
+      r ≡ Some (record { count = length (leading_digits text); value = value (leading_digits text) })
+  pub some : is_number most text ≡ true → (1 ≤ length (leading_digits text)) × (length (leading_digits text) + 1 ≤ length text)
 
 pub record AskLine (text : List ℕ) (at : ℕ) (due : DueLine) : Type 0 where
   pub within : at ≤ length text

@@ -1,8 +1,10 @@
 -- A reader must believe this: what reading a line or a form answers, by 01's numbers and places. Document 01, "Job text".
-use Rattle.std.specs.Prelude.{◌≡◌, ℕ}
+use Rattle.std.specs.Prelude.{◌≡◌, ℕ, Result, Ok, Err}
 use Rattle.std.proofs.Math.Option.{Option, none, some}
+use Rattle.lines.specs.declared.line.Fault.{Fault}
+use Rattle.lines.specs.declared.line.Fault.TheVariants.{NoKey, IllWritten, OutOfRange}
 use Rattle.lines.specs.declared.line.Reading.{Reading}
-use Rattle.lines.specs.declared.line.Reading.TheVariants.{Read, Refused}
+use Rattle.lines.specs.declared.line.Unread.{Unread}
 use Rattle.lines.specs.Lines.{Parsed, parsed, refused}
 
 -- What the form finds: 0 or the refusal's number; the place after what was read, or of the refused line; what was read, if it was.
@@ -21,25 +23,15 @@ parsed_value (refused number place) = none
 
 -- The same of the code's answer, case by case.
 
-abbrev pub number_of_reading : Reading → ℕ
-number_of_reading (Read n next) = 0
-number_of_reading (Refused number place) = number
+abbrev pub fault_number : Fault → ℕ
+fault_number NoKey = 14
+fault_number IllWritten = 15
+fault_number OutOfRange = 16
 
-abbrev pub reading_place : Reading → ℕ
-reading_place (Read n next) = next
-reading_place (Refused number place) = place
+abbrev pub reading_said : {A : Type 0} → Result (Reading A) Unread → Parsed A
+reading_said (Ok reading) = parsed reading.value reading.next
+reading_said (Err unread) = refused (fault_number unread.fault) unread.at
 
-abbrev pub reading_value : Reading → Option ℕ
-reading_value (Read n next) = some n
-reading_value (Refused number place) = none
-
-abbrev pub reading_said : Parsed ℕ → Reading
-reading_said (parsed n next) = Read n next
-reading_said (refused number place) = Refused number place
-
--- the whole answer is that of the form, and by 01's numbers and values
-pub record ReadingIs (p : Parsed ℕ) (r : Reading) : Type 0 where
-  pub answer_is : r ≡ reading_said p
-  pub number_is : number_of_reading r ≡ parsed_number p
-  pub place_is : reading_place r ≡ parsed_place p
-  pub value_is : reading_value r ≡ parsed_value p
+-- the whole answer is that of the form, and so are its number, place and value
+abbrev pub ReadingIs : {A : Type 0} → Parsed A → Result (Reading A) Unread → Type 0
+ReadingIs found answer = reading_said answer ≡ found

@@ -10,7 +10,7 @@ pub fn width(n: u64) -> usize
     let mut rest = n;
     let mut count = 1;
     while 10 <= rest {
-        rest = rest / 10;
+        rest /= 10;
         count += 1;
     }
     count
@@ -20,7 +20,7 @@ fn digit(n: u64) -> u8
     requires { n ≤ 9 }
     ensures { result ≡ zero_digit + n }
 {
-    (48 + n) as u8
+    b'0' + n as u8
 }
 
 // A number in decimal, from its last digit to its first. Answers the place after it.
@@ -29,14 +29,11 @@ pub fn put_figure(output: &mut [u8], at: usize, n: u64) -> usize
     ensures { Puts output.old at (decimal n) output.new result }
 {
     let end = at + width(n);
-    let mut i = end;
     let mut rest = n;
-    while 10 <= rest {
-        i -= 1;
-        output[i] = digit(rest % 10);
-        rest = rest / 10;
+    for place in (at..end).rev() {
+        output[place] = digit(rest % 10);
+        rest /= 10;
     }
-    output[at] = digit(rest);
     end
 }
 
@@ -45,12 +42,9 @@ pub fn put_bytes(output: &mut [u8], at: usize, bytes: &[u8]) -> usize
     requires { at + length bytes.now ≤ length output.old }
     ensures { Puts output.old at bytes.now output.new result }
 {
-    let mut i = 0;
-    while i < bytes.len() {
-        output[at + i] = bytes[i];
-        i += 1;
-    }
-    at + bytes.len()
+    let end = at + bytes.len();
+    output[at..end].copy_from_slice(bytes);
+    end
 }
 
 // A key with its equals sign, a number and a line feed. Answers the place after them.

@@ -1,4 +1,4 @@
--- The rows of the trial that is kept, behind those of a job, row by row: the timeline with those so far, and their figures.
+-- The rows of the trial that is kept, behind those of a job, row by row: the timeline with those so far, and their entries.
 use mathlib.Core.Path.{◌≡◌, refl, sym, ap, ◌∙◌, subst}
 use mathlib.Core.Logic.{⊎_elim}
 use mathlib.Core.Bool.{Bool, true, false, not, ◌&&◌}
@@ -8,16 +8,18 @@ use mathlib.Core.List.{Memᴰ}
 use Prim.Native.Nat.{ℕ, zero, suc, ◌+◌, ◌-◌, ◌≤◌, ◌<◌}
 use native.Mathlib.Omega.{arith}
 use lib.Dec.{eqb, ltb}
-use lib.ListN.{length, get_or, length-append}
-use borrow.Author.Tests.{eqb-true, eqb-false, eq-eqb, ne_eqb, not-true, not-false, lt-ltb, le-ltb}
+use lib.ListN.{length, get_or, length-append, length-map}
+use borrow.Author.Tests.{eqb-true, eq-eqb, ne_eqb, lt-ltb}
+use Rattle.std.proofs.lemmas.List.{get_or-map}
 use Rattle.rules.specs.declared.Holder.{Holder}
 use Rattle.rules.specs.declared.Row.{Row}
 use Rattle.rules.specs.declared.Message.{Message}
 use Rattle.rules.specs.declared.Job.{Job}
 use Rattle.rules.specs.declared.Setup.{Setup}
-use Rattle.rules.specs.Words.{held_by, hold_of, holds, row_limit, most_tasks, most_messages, messages_of, run_time}
+use Rattle.rules.specs.Words.{held_by, hold_of, holds, most_tasks, messages_of, run_time}
 use Rattle.rules.specs.Placing.{on_rows, task_booking, message_booking, machine_for, into, crosses, trial_rows, try}
-use Rattle.rules.specs.Bounds.{Sound, Listed, task, message, RowInRange}
+use Rattle.rules.specs.Asked.{HasMachine}
+use Rattle.rules.specs.Bounds.{Sound, Between, Listed, task, message, RowInRange}
 use Rattle.rules.proofs.Sequences.{by_less, get_or_mem, mem_keep, mem_map}
 use Rattle.rules.proofs.Pairs.{pairwise_front, pairwise_across}
 use Rattle.rules.proofs.Resources.{holds_append}
@@ -26,20 +28,24 @@ use Rattle.rules.proofs.Inputs.{try_shape}
 use Rattle.rules.proofs.Order.{in_range_ends, in_range_volume}
 use Rattle.rules.proofs.Bounds.{listed_in_range, task_figures}
 use Rattle.timeline.specs.Timeline.{Known, known_machine, known_link, Drawable}
-use Rattle.timeline.specs.RowLine.{most_own, SpansOf}
+use Rattle.timeline.specs.Lines.{LineOf}
+use Rattle.timeline.specs.RowLine.{most_own, spans_room}
+use Rattle.timeline.specs.declared.line.Timeline.{Timeline}
 use Rattle.timeline.specs.Grown.{Untaken}
 use Rattle.drcd.specs.declared.TaskTurn.{TaskTurn}
 use Rattle.drcd.specs.declared.inputs.Input.{Input}
 use Rattle.drcd.specs.declared.choice.Kept.{Kept}
 use Rattle.placement.specs.declared.own.Entry.{Entry}
-use Rattle.drcd.specs.Inputs.{nth_input, input_of}
+use Rattle.drcd.specs.Inputs.{input_of}
 use Rattle.drcd.specs.Trials.{no_message, message_row_at, rows_upto}
-use Rattle.placement.specs.Own.{owned, entry_for, OwnRows}
+use Rattle.placement.specs.Own.{entry_for, OwnRows}
 use Rattle.placement.specs.Bookings.{AskTaskEntry, TaskEntryIs, AskMessageEntry, MessageEntryIs}
 use Rattle.placement.specs.Appending.{Pushable, AskPush, Pushed, Keeping, AskAppend, AppendedIs}
-use Rattle.placement.proofs.Booked.{in_room}
 
 -- A row in range can be drawn.
+
+in_room : {s : Setup} {m : ℕ} → Sound s → Between 1 s.table.machines m → HasMachine m
+in_room sound there = record { first = there.first; last = omega (arith, sound.room, there.last) }
 
 listed_known : {s : Setup} {h : Holder} → Sound s → Listed s h → Known (held_by h)
 unfolding held_by
@@ -74,31 +80,30 @@ pub record Next (all done : List Row) (row : Row) : Type 0 where
   pub splits : all ≡ done ++ (row ∷ rest)
 
 -- a message takes a row, by its figures
-abbrev pub goes : Input → (m : ℕ) → Bool
+abbrev goes : Input → (m : ℕ) → Bool
 goes input m = not (eqb input.source m) && ltb 0 input.volume
 
-pub goes_on : (input : Input) (m : ℕ) → (input.source ≡ m → ⊥) → not (eqb input.volume 0) ≡ true → goes input m ≡ true
-goes_on input m apart some =
-    let ne = eqb-false input.volume 0 (not-true (eqb input.volume 0) some) in
-    rw (ne_eqb input.source m apart, lt-ltb 0 input.volume (omega (arith, ne))) refl
+goes_on : (input : Input) (m : ℕ) → (input.source ≡ m → ⊥) → (input.volume ≡ 0 → ⊥) → goes input m ≡ true
+goes_on input m apart some = rw (ne_eqb input.source m apart, lt-ltb 0 input.volume (omega (arith, some))) refl
 
-pub stays_there : (input : Input) (m : ℕ) → input.source ≡ m → goes input m ≡ false
+stays_there : (input : Input) (m : ℕ) → input.source ≡ m → goes input m ≡ false
 stays_there input m same = rw (eq-eqb input.source m same) refl
 
-pub stays_light : (input : Input) (m : ℕ) → (input.source ≡ m → ⊥) → not (eqb input.volume 0) ≡ false → goes input m ≡ false
-stays_light input m apart none =
-    let zero = eqb-true input.volume 0 (not-false (eqb input.volume 0) none) in
-    rw (ne_eqb input.source m apart, le-ltb 0 input.volume (omega arith)) refl
+stays_light : (input : Input) (m : ℕ) → (input.source ≡ m → ⊥) → input.volume ≡ 0 → goes input m ≡ false
+stays_light input m apart none = rw (ne_eqb input.source m apart, none) refl
+
+-- the input at an index
+abbrev pub nth_input : List Input → ℕ → Input
+nth_input inputs i = get_or inputs i (record { sender = 0; source = 0; done = 0; volume = 0 })
 
 -- with some of a trial's rows appended
-pub record Behind (rows new done : List Row) (turn : TaskTurn) (begins ends own : List ℕ) (used : ℕ) : Type 0 where
-  pub used_is : used ≡ turn.used + length done
-  pub spans : SpansOf (rows ++ (new ++ done)) begins ends
+pub record Behind (rows new done : List Row) (line : Timeline spans_room) (own : List Entry) : Type 0 where
+  pub line_is : LineOf (rows ++ (new ++ done)) line
   pub own_is : OwnRows rows (new ++ done) own
 
 module _
-    {s : Setup} {j : Job} {base : ℕ} {rows new : List Row} {kept : Kept} {table inputs begins₀ ends₀ own₀ : List ℕ} {turn : TaskTurn}
-    (k : Keeping s j base rows new kept table inputs begins₀ ends₀ own₀ turn) where
+    {s : Setup} {j : Job} {base : ℕ} {rows new : List Row} {kept : Kept} {inputs : List Input} {turn : TaskTurn} {line₀ : Timeline spans_room} {own₀ : List Entry}
+    (k : Keeping s j base rows new kept inputs turn line₀ own₀) where
   -- the trial's rows: those of its messages, and the task's own
   abbrev all_rows : List Row
   all_rows = trial_rows (try s (on_rows base rows) j new (turn.t + 1) kept.machine)
@@ -117,19 +122,25 @@ module _
   abbrev booking_at : ℕ → Row
   booking_at i = message_booking s j (message_at i) (machine_for new (message_at i).sender) kept.machine (get_or kept.best.starts i 0)
 
-  own_last : all_rows ≡ first_rows turn.inputs ++ (own_row ∷ [])
-  own_last = rw (k.trial.inputs_are, ← k.scene.inputs_are.all) refl
+  inputs_long : length inputs ≡ length (into j (turn.t + 1))
+  inputs_long = ap length k.scene.inputs_are ∙ length-map (into j (turn.t + 1)) (input_of new)
 
-  module _ {i : ℕ} (below : i < turn.inputs) where
+  own_last : all_rows ≡ first_rows (length inputs) ++ (own_row ∷ [])
+  own_last = rw (k.trial.inputs_are, ← inputs_long) refl
+
+  module _ {i : ℕ} (below : i < length inputs) where
     message_listed : Memᴰ (message_at i) (into j (turn.t + 1))
-    message_listed = get_or_mem (into j (turn.t + 1)) i no_message (let all = k.scene.inputs_are.all in omega arith)
+    message_listed = get_or_mem (into j (turn.t + 1)) i no_message (omega (arith, inputs_long))
 
     message_into : Memᴰ (message_at i) (messages_of j) × (eqb (message_at i).receiver (turn.t + 1) ≡ true)
     message_into = mem_keep (λ msg. eqb msg.receiver (turn.t + 1)) (messages_of j) message_listed
 
     module _ {input : Input} (is : input ≡ nth_input inputs i) where
       input_is : input ≡ input_of new (message_at i)
-      input_is = is ∙ k.scene.inputs_are.each i below no_message
+      input_is =
+          is
+          ∙ ap (λ l. nth_input l i) k.scene.inputs_are
+          ∙ get_or-map (input_of new) (into j (turn.t + 1)) i no_message _ (omega (arith, inputs_long))
 
       -- the rows of the first messages, with one message more
       more_rows : goes input kept.machine ≡ true → first_rows (suc i) ≡ first_rows i ++ (booking_at i ∷ [])
@@ -146,17 +157,17 @@ module _
 
       next_message : goes input kept.machine ≡ true → Next all_rows (first_rows i) (booking_at i)
       next_message on =
-          let more = upto_more s j new kept.machine (into j (turn.t + 1)) kept.best.starts (suc i) turn.inputs below in
+          let more = upto_more s j new kept.machine (into j (turn.t + 1)) kept.best.starts (suc i) (length inputs) below in
           record {
             rest = more.0 ++ (own_row ∷ []);
             splits = own_last ∙ ap (λ l. l ++ (own_row ∷ [])) (more.1 ∙ ap (λ l. l ++ more.0) (more_rows on)) ∙ simp append_assoc;
           }
 
       message_is :
-          {entry : Entry} → MessageEntryIs table (turn.t + 1) kept.machine input (get_or kept.best.starts i 0) entry →
+          {entry : Entry} → MessageEntryIs s (turn.t + 1) kept.machine input (get_or kept.best.starts i 0) entry →
           entry ≡ entry_for 0 (booking_at i)
       message_is made =
-          made s j new (message_at i) k.scene.table_is (eqb-true (message_at i).receiver (turn.t + 1) message_into.1) input_is
+          made j new (message_at i) (eqb-true (message_at i).receiver (turn.t + 1) message_into.1) input_is
 
   -- the task's own row
   own_booked : own_row ≡ task_booking s j (turn.t + 1) kept.machine kept.best.start
@@ -168,9 +179,9 @@ module _
   own_runs = k.trial.finish_is ∙ ap (λ row. row.finish) own_booked
 
   own_is :
-      {entry : Entry} → TaskEntryIs table (turn.t + 1) kept.machine kept.best.start (kept.best.finish - kept.best.start) entry →
+      {entry : Entry} → TaskEntryIs s (turn.t + 1) kept.machine kept.best.start (kept.best.finish - kept.best.start) entry →
       entry ≡ entry_for 0 own_row
-  own_is made = made s j k.scene.table_is (omega (arith, own_runs)) ∙ ap (entry_for 0) (sym own_booked)
+  own_is made = made j (omega (arith, own_runs)) ∙ ap (entry_for 0) (sym own_booked)
 
   -- a row of those held, and of the job so far
   old_drawable : (row : Row) → Memᴰ row (rows ++ new) → Drawable (hold_of row)
@@ -224,200 +235,163 @@ module _
         taken.within
         (low, high)
 
-    module _ {begins ends own : List ℕ} {used : ℕ} (so_far : Behind rows new done turn begins ends own used) where
-      pushable : Pushable rows (new ++ done) begins ends own turn.held used
-      pushable =
-          let both = length-append new done in
-          record {
-            held_is = k.held_is;
-            used_is = omega (arith, so_far.used_is, k.used_is, k.held_is);
-            held_few = omega (arith, k.held_few, k.held_is);
-            room = omega (arith, next_fits);
-            drawable = before_drawable;
-            apart = apart_shares_none before before_apart;
-            spans = so_far.spans;
-            own_is = so_far.own_is;
-          }
-
-      used_few : used < row_limit + most_own
-      used_few = omega (arith, so_far.used_is, k.used_is, k.held_few, next_fits)
+    module _ {line : Timeline spans_room} {own : List Entry} (so_far : Behind rows new done line own) where
+      pushable : Pushable rows (new ++ done) line own
+      pushable = record {
+        held_few = k.held_few;
+        room = omega (arith, length-append new done, next_fits);
+        drawable = before_drawable;
+        apart = apart_shares_none before before_apart;
+        line_is = so_far.line_is;
+        own_is = so_far.own_is;
+      }
 
       behind_more :
-          {entry : Entry} {begins' ends' own' : List ℕ} → Pushed begins ends own turn.held used entry begins' ends' own' →
-          entry ≡ entry_for 0 row → Behind rows new (done ++ (row ∷ [])) turn begins' ends' own' (used + 1)
+          {entry : Entry} {line' : Timeline spans_room} {own' : List Entry} → Pushed line own entry line' own' → entry ≡ entry_for 0 row →
+          Behind rows new (done ++ (row ∷ [])) line' own'
       behind_more {entry} pushed is =
           let takes = in_range_drawable k.scene.sound next_in_range in
           let same : entry ≡ entry_for entry.at row = is ∙ ap (λ x. entry_for x.at row) (sym is) in
           record {
-            used_is = omega (arith, so_far.used_is, length-append done (row ∷ []));
-            spans = rw (← append_assoc new done (row ∷ [])) (pushed.spans_are rows (new ++ done) row pushable takes untaken same);
+            line_is = rw (← append_assoc new done (row ∷ [])) (pushed.line_is rows (new ++ done) row pushable takes untaken same);
             own_is = rw (← append_assoc new done (row ∷ [])) (pushed.own_is rows (new ++ done) row pushable takes untaken same);
           }
 
 -- The loop: the rows of the first i messages follow those of the job.
 pub record Appending
-    (kept : Kept) (table inputs begins₀ ends₀ own₀ : List ℕ) (turn : TaskTurn) (begins ends own : List ℕ) (used i : ℕ) : Type 0 where
-  pub within : i ≤ turn.inputs
-  pub begins_long : length begins ≡ length begins₀
-  pub ends_long : length ends ≡ length ends₀
-  pub own_long : length own ≡ owned
+    (s : Setup) (kept : Kept) (inputs : List Input) (turn : TaskTurn) (line₀ : Timeline spans_room) (own₀ : List Entry)
+    (line : Timeline spans_room) (own : List Entry) (i : ℕ) : Type 0 where
   pub follows :
-      (s : Setup) (j : Job) (base : ℕ) (rows new : List Row) (k : Keeping s j base rows new kept table inputs begins₀ ends₀ own₀ turn) →
-      Behind rows new (first_rows k i) turn begins ends own used
+      (j : Job) (base : ℕ) (rows new : List Row) (k : Keeping s j base rows new kept inputs turn line₀ own₀) → Behind rows new (first_rows k i) line own
 
 module _
-    {kept : Kept} {table inputs begins₀ ends₀ own₀ : List ℕ} {turn : TaskTurn} (ask : AskAppend kept table inputs begins₀ ends₀ own₀ turn) where
-  pub appending_none : Appending kept table inputs begins₀ ends₀ own₀ turn begins₀ ends₀ own₀ turn.used 0
+    {s : Setup} {kept : Kept} {inputs : List Input} {turn : TaskTurn} {line₀ : Timeline spans_room} {own₀ : List Entry}
+    (ask : AskAppend s kept inputs turn line₀ own₀) where
+  pub appending_none : Appending s kept inputs turn line₀ own₀ line₀ own₀ 0
   unfolding rows_upto
   appending_none = record {
-    within = omega arith;
-    begins_long = refl;
-    ends_long = refl;
-    own_long = ask.keeping.own_is.long;
-    follows =
-        λ s j base rows new k.
-        record { used_is = omega arith; spans = rw (append-nil new) k.spans; own_is = rw (append-nil new) k.own_is };
+    follows = λ j base rows new k. record { line_is = rw (append-nil new) k.line_is; own_is = rw (append-nil new) k.own_is };
   }
 
-  pub inputs_at_most : turn.inputs ≤ most_messages
-  inputs_at_most = ask.keeping.scene.inputs_are.at_most
-
   pub task_at_most : turn.t + 1 ≤ most_tasks
-  task_at_most = (listed_in_range ask.setup ask.job ask.keeping.scene.range ask.keeping.scene.listed).last
+  task_at_most = (listed_in_range s ask.job ask.keeping.scene.range ask.keeping.scene.listed).last
 
   -- what the task's own row asks
   pub own_lasts : kept.best.start ≤ kept.best.finish
   own_lasts = omega (arith, own_runs ask.keeping)
 
-  pub own_asked : AskTaskEntry table (turn.t + 1) kept.machine kept.best.start (kept.best.finish - kept.best.start)
+  pub own_asked : AskTaskEntry s (turn.t + 1) kept.machine kept.best.start (kept.best.finish - kept.best.start)
   own_asked =
       let k = ask.keeping in
-      let most = (task_figures ask.setup ask.job k.scene.range k.scene.listed).runs kept.machine k.there in
+      let most = (task_figures s ask.job k.scene.range k.scene.listed).runs kept.machine k.there in
       record {
         task_at_most = task_at_most;
-        setup = ask.setup;
         sound = k.scene.sound;
-        table_is = k.scene.table_is;
         there = k.there;
         start_at_most = ask.bounds.start_at_most;
         run_at_most = omega (arith, own_runs k);
       }
 
-  module _
-      {begins ends own : List ℕ} {used i : ℕ} (so_far : Appending kept table inputs begins₀ ends₀ own₀ turn begins ends own used i) where
+  module _ {line : Timeline spans_room} {own : List Entry} {i : ℕ} (so_far : Appending s kept inputs turn line₀ own₀ line own i) where
     -- a row that is next
-    module _ {row : Row} (next : Next (all_rows ask.keeping) (first_rows ask.keeping i) row) where
-      abbrev behind : Behind ask.rows ask.new (first_rows ask.keeping i) turn begins ends own used
-      behind = so_far.follows ask.setup ask.job ask.base ask.rows ask.new ask.keeping
+    push_asked : {row : Row} → Next (all_rows ask.keeping) (first_rows ask.keeping i) row → AskPush line own
+    push_asked next = record {
+      rows = ask.rows;
+      new = ask.new ++ first_rows ask.keeping i;
+      pushable = pushable ask.keeping next (so_far.follows ask.job ask.base ask.rows ask.new ask.keeping);
+    }
 
-      push_asked : AskPush begins ends own turn.held used
-      push_asked = record {
-        rows = ask.rows;
-        new = ask.new ++ first_rows ask.keeping i;
-        pushable = pushable ask.keeping next behind;
-      }
+    -- a turn with a message, of the inputs as they are lent
+    module _ {lent : List Input} (same_inputs : lent ≡ inputs) (listed : i < length lent) where
+      abbrev input : Input
+      input = nth_input lent i
 
-      few_used : used < row_limit + most_own
-      few_used = used_few ask.keeping next behind
+      is : input ≡ nth_input inputs i
+      is = ap (λ l. nth_input l i) same_inputs
 
-    -- a turn with a message
-    module _ (below : i < turn.inputs) {input : Input} (is : input ≡ nth_input inputs i) where
+      below : i < length inputs
+      below = rw same_inputs at listed
+
       -- that takes no row
-      pub appending_same :
-          goes input kept.machine ≡ false → Appending kept table inputs begins₀ ends₀ own₀ turn begins ends own used (suc i)
-      appending_same off = record {
-        within = below;
-        begins_long = so_far.begins_long;
-        ends_long = so_far.ends_long;
-        own_long = so_far.own_long;
-        follows = λ s j base rows new k. rw (same_rows k below is off) (so_far.follows s j base rows new k);
-      }
+      appending_same : goes input kept.machine ≡ false → Appending s kept inputs turn line₀ own₀ line own (suc i)
+      appending_same off = record { follows = λ j base rows new k. rw (same_rows k below is off) (so_far.follows j base rows new k) }
+
+      pub appending_there : input.source ≡ kept.machine → Appending s kept inputs turn line₀ own₀ line own (suc i)
+      appending_there same = appending_same (stays_there input kept.machine same)
+
+      pub appending_light : (input.source ≡ kept.machine → ⊥) → input.volume ≡ 0 → Appending s kept inputs turn line₀ own₀ line own (suc i)
+      appending_light apart none = appending_same (stays_light input kept.machine apart none)
 
       -- that takes one
-      module _ (on : goes input kept.machine ≡ true) where
-        pub message_asked : AskMessageEntry table (turn.t + 1) kept.machine input (get_or kept.best.starts i 0)
+      module _ (apart : input.source ≡ kept.machine → ⊥) (some : input.volume ≡ 0 → ⊥) where
+        on : goes input kept.machine ≡ true
+        on = goes_on input kept.machine apart some
+
+        pub message_asked : AskMessageEntry s (turn.t + 1) kept.machine input (get_or kept.best.starts i 0)
         message_asked =
             let k = ask.keeping in
             let same = input_is k below is in
             let range = next_in_range k (next_message k below is on) in
             let lasts = range.lasts in
             let ends = range.ends in
-            let tasks = in_range_ends ask.setup ask.job k.scene.range (message_at k i) (message_into k below).0 in
+            let tasks = in_range_ends s ask.job k.scene.range (message_at k i) (message_into k below).0 in
             record {
               receiver_at_most = task_at_most;
-              sender_at_most = rw same (listed_in_range ask.setup ask.job k.scene.range tasks.0).last;
-              setup = ask.setup;
+              sender_at_most = rw same (listed_in_range s ask.job k.scene.range tasks.0).last;
               sound = k.scene.sound;
-              table_is = k.scene.table_is;
               source = rw same (k.scene.senders_on (message_at k i) (message_listed k below));
               there = k.there;
-              volume = rw same (in_range_volume ask.setup ask.job k.scene.range (message_at k i) (message_into k below).0);
+              volume = rw same (in_range_volume s ask.job k.scene.range (message_at k i) (message_into k below).0);
               start_at_most = omega arith;
             }
 
-        pub message_push_asked : AskPush begins ends own turn.held used
+        pub message_push_asked : AskPush line own
         message_push_asked = push_asked (next_message ask.keeping below is on)
 
-        pub message_used_few : used < row_limit + most_own
-        message_used_few = few_used (next_message ask.keeping below is on)
-
         pub appending_more :
-            {entry : Entry} → MessageEntryIs table (turn.t + 1) kept.machine input (get_or kept.best.starts i 0) entry →
-            {begins' ends' own' : List ℕ} → Pushed begins ends own turn.held used entry begins' ends' own' →
-            Appending kept table inputs begins₀ ends₀ own₀ turn begins' ends' own' (used + 1) (suc i)
+            {entry : Entry} → MessageEntryIs s (turn.t + 1) kept.machine input (get_or kept.best.starts i 0) entry →
+            {line' : Timeline spans_room} {own' : List Entry} → Pushed line own entry line' own' →
+            Appending s kept inputs turn line₀ own₀ line' own' (suc i)
         appending_more made pushed = record {
-          within = below;
-          begins_long = pushed.begins_long ∙ so_far.begins_long;
-          ends_long = pushed.ends_long ∙ so_far.ends_long;
-          own_long = pushed.own_long;
           follows =
-              λ s j base rows new k.
+              λ j base rows new k.
               rw
               (more_rows k below is on)
-              (behind_more k (next_message k below is on) (so_far.follows s j base rows new k) pushed (message_is k below is made));
+              (behind_more k (next_message k below is on) (so_far.follows j base rows new k) pushed (message_is k below is made));
         }
 
     -- the task's own row, after the last message
-    module _ (end : turn.inputs ≤ i) where
+    module _ {lent : List Input} (same_inputs : lent ≡ inputs) (within : i ≤ length lent) (end : length lent ≤ i) where
+      last : i ≡ length inputs
+      last = omega (arith, ap length same_inputs)
+
       all_last :
-          {s : Setup} {j : Job} {base : ℕ} {rows new : List Row} (k : Keeping s j base rows new kept table inputs begins₀ ends₀ own₀ turn) →
+          {j : Job} {base : ℕ} {rows new : List Row} (k : Keeping s j base rows new kept inputs turn line₀ own₀) →
           all_rows k ≡ first_rows k i ++ (own_row k ∷ [])
-      all_last k =
-          let most = so_far.within in
-          let same : i ≡ turn.inputs = omega arith in
-          rw same (own_last k)
+      all_last k = rw last (own_last k)
 
       next_last :
-          {s : Setup} {j : Job} {base : ℕ} {rows new : List Row} (k : Keeping s j base rows new kept table inputs begins₀ ends₀ own₀ turn) →
+          {j : Job} {base : ℕ} {rows new : List Row} (k : Keeping s j base rows new kept inputs turn line₀ own₀) →
           Next (all_rows k) (first_rows k i) (own_row k)
       next_last k = record { rest = []; splits = all_last k }
 
-      pub own_push_asked : AskPush begins ends own turn.held used
+      pub own_push_asked : AskPush line own
       own_push_asked = push_asked (next_last ask.keeping)
 
-      pub own_used_few : used < row_limit + most_own
-      own_used_few = few_used (next_last ask.keeping)
-
       module _
-          {entry : Entry}
-          (made : TaskEntryIs table (turn.t + 1) kept.machine kept.best.start (kept.best.finish - kept.best.start) entry)
-          {begins' ends' own' : List ℕ} (pushed : Pushed begins ends own turn.held used entry begins' ends' own') where
+          {entry : Entry} (made : TaskEntryIs s (turn.t + 1) kept.machine kept.best.start (kept.best.finish - kept.best.start) entry)
+          {line' : Timeline spans_room} {own' : List Entry} (pushed : Pushed line own entry line' own') where
         all_behind :
-            {s : Setup} {j : Job} {base : ℕ} {rows new : List Row} (k : Keeping s j base rows new kept table inputs begins₀ ends₀ own₀ turn) →
-            Behind rows new (all_rows k) turn begins' ends' own' (used + 1)
-        all_behind {s} {j} {base} {rows} {new} k =
+            {j : Job} {base : ℕ} {rows new : List Row} (k : Keeping s j base rows new kept inputs turn line₀ own₀) →
+            Behind rows new (all_rows k) line' own'
+        all_behind {j} {base} {rows} {new} k =
             subst
-            (λ done. Behind rows new done turn begins' ends' own' (used + 1))
+            (λ done. Behind rows new done line' own')
             (sym (all_last k))
-            (behind_more k (next_last k) (so_far.follows s j base rows new k) pushed (own_is k made))
+            (behind_more k (next_last k) (so_far.follows j base rows new k) pushed (own_is k made))
 
-        pub appended_all : AppendedIs kept table inputs begins₀ ends₀ own₀ turn begins' ends' own' (used + 1)
+        pub appended_all : AppendedIs s kept inputs turn line₀ own₀ line' own'
         appended_all = record {
-          begins_long = pushed.begins_long ∙ so_far.begins_long;
-          ends_long = pushed.ends_long ∙ so_far.ends_long;
-          own_long = pushed.own_long;
-          is =
-              λ s j base rows new k.
-              let behind = all_behind k in
-              record { used_is = behind.used_is; spans = behind.spans; own_is = behind.own_is };
+          line_is = λ j base rows new k. (all_behind k).line_is;
+          own_is = λ j base rows new k. (all_behind k).own_is;
         }

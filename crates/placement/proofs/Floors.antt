@@ -4,10 +4,11 @@ use mathlib.Core.Bool.{Bool, true, false, cond}
 use mathlib.Core.List.{List, []}
 use Prim.Native.Nat.{ℕ, zero, suc, ◌+◌, ◌-◌, ◌*◌, ◌≤◌, ◌<◌}
 use native.Mathlib.Omega.{arith}
-use lib.Dec.{eqb, ltb}
-use lib.ListN.{get_or, set, replicate, length, get_or-replicate}
+use lib.Dec.{eqb}
+use lib.ListN.{set, replicate, length, get_or-replicate}
 use lib.Seq.{get_or-set_same, get_or-set_other}
-use borrow.Author.Tests.{eqb-true, eqb-false, lt-ltb, le-ltb}
+use borrow.Author.Tests.{eqb-true, eqb-false}
+use Rattle.std.proofs.Common.{Option, Some, None, is_some}
 use Rattle.rules.specs.declared.Row.{Row}
 use Rattle.rules.specs.declared.Job.{Job}
 use Rattle.rules.specs.Sequences.{cons_if, keep, sum_of, numbers}
@@ -15,7 +16,8 @@ use Rattle.rules.specs.Words.{most_tasks, largest_time, horizon, task_of}
 use Rattle.rules.specs.Laws.{IsTask}
 use Rattle.rules.specs.Placing.{placed, release, on_rows}
 use Rattle.rules.proofs.Sequences.{by_test, sum_append}
-use Rattle.drcd.specs.Given.{StandsFor}
+use Rattle.drcd.specs.declared.order.Spot.{Spot}
+use Rattle.drcd.specs.Given.{StandsFor, spot_of}
 use Rattle.drcd.specs.Trials.{reach}
 use Rattle.drcd.proofs.Foremost.{keep_next}
 
@@ -70,66 +72,76 @@ module _ (f : ℕ → ℕ) where
 
 -- The floor.
 
--- what the column of machines says of a task
-abbrev stands_at : List ℕ → ℕ → Bool
-stands_at machines t = ltb 0 (get_or machines (t - 1) 0)
+-- whether the spots have one of a task
+abbrev stands_at : List (Option Spot) → ℕ → Bool
+stands_at spots t = is_some (spot_of spots t)
 
 abbrev dispatch_of : Job → ℕ → ℕ
 dispatch_of j t = (task_of j t).dispatch
 
 -- the floor so far: the base, and the dispatch times of the tasks placed
-pub record Released (j : Job) (base : ℕ) (machines : List ℕ) (floor turns : ℕ) : Type 0 where
-  pub is : floor ≡ base + sum_up_to (dispatch_of j) (stands_at machines) j.taskcount
+pub record Released (j : Job) (base : ℕ) (spots : List (Option Spot)) (floor turns : ℕ) : Type 0 where
+  pub is : floor ≡ base + sum_up_to (dispatch_of j) (stands_at spots) j.taskcount
   pub at_most : floor ≤ horizon + largest_time * (turns + 1)
 
-pub released_none : (j : Job) {base : ℕ} → base ≤ horizon + largest_time → j.taskcount ≤ most_tasks → Released j base (replicate most_tasks 0) base 0
+pub released_none : (j : Job) {base : ℕ} → base ≤ horizon + largest_time → j.taskcount ≤ most_tasks → Released j base (replicate most_tasks None) base 0
 released_none j low few =
-    let none = sum_none (dispatch_of j) (stands_at (replicate most_tasks 0)) j.taskcount
-    (λ k a b. ap (ltb 0) (get_or-replicate {A = ℕ} most_tasks (k - 1) 0 0 (omega arith))) in
+    let none =
+    sum_none
+    (dispatch_of j)
+    (stands_at (replicate most_tasks None))
+    j.taskcount
+    (λ k a b. ap is_some (get_or-replicate {A = Option Spot} most_tasks (k - 1) None None (omega arith)))
+    in
     record { is = rw none (omega arith); at_most = omega arith }
 
--- what the turn of a task asks: it is listed, its dispatch time is in range, and it has no machine yet
-pub record TurnOf (j : Job) (machines : List ℕ) (t : ℕ) : Type 0 where
+-- what the turn of a task asks: it is listed, its dispatch time is in range, and it has no spot yet
+pub record TurnOf (j : Job) (spots : List (Option Spot)) (t : ℕ) : Type 0 where
   pub listed : IsTask j t
   pub few : j.taskcount ≤ most_tasks
   pub short : (task_of j t).dispatch ≤ largest_time
-  pub vacant : get_or machines (t - 1) 0 ≡ 0
+  pub vacant : is_some (spot_of spots t) ≡ false
 
-module _ {j : Job} {base : ℕ} {machines : List ℕ} {floor turns t : ℕ} (sofar : Released j base machines floor turns) (turn : TurnOf j machines t) where
+module _ {j : Job} {base : ℕ} {spots : List (Option Spot)} {floor turns t : ℕ} (sofar : Released j base spots floor turns) (turn : TurnOf j spots t) where
   pub release_low : turns < j.taskcount → floor + (task_of j t).dispatch ≤ reach 0
   release_low more = let most = sofar.at_most in let few = turn.few in omega (arith, turn.short)
 
-  pub release_now : {finishes : List ℕ} (rows new : List Row) → StandsFor new machines finishes →
-      floor + (task_of j t).dispatch ≡ release (on_rows base rows) j new t
+  pub release_now : (rows new : List Row) → StandsFor new spots → floor + (task_of j t).dispatch ≡ release (on_rows base rows) j new t
   unfolding release
   release_now rows new stands =
       let few = turn.few in
-      let same = sum_same (dispatch_of j) (stands_at machines) (placed new) j.taskcount
-      (λ k a b. sym (stands.placed_is k (record { first = a; last = omega arith }))) in
+      let same =
+      sum_same
+      (dispatch_of j)
+      (stands_at spots)
+      (placed new)
+      j.taskcount
+      (λ k a b. sym (stands.placed_is k (record { first = a; last = omega arith })))
+      in
       let is = sofar.is in
       omega arith
 
   -- the task is placed
   pub released_more :
-      {m : ℕ} → length machines ≡ most_tasks → 1 ≤ m →
-      Released j base (set machines (t - 1) m) (floor + (task_of j t).dispatch) (turns + 1)
-  released_more {m} long positive =
+      (spot : Spot) → length spots ≡ most_tasks →
+      Released j base (set spots (t - 1) (Some spot)) (floor + (task_of j t).dispatch) (turns + 1)
+  released_more spot long =
       let low = turn.listed.first in
       let high = turn.listed.last in
       let few = turn.few in
-      let at : t - 1 < length machines = omega arith in
+      let at : t - 1 < length spots = omega arith in
       let one_more =
       sum_one_more
       (dispatch_of j)
-      (stands_at machines)
-      (stands_at (set machines (t - 1) m))
+      (stands_at spots)
+      (stands_at (set spots (t - 1) (Some spot)))
       t
       j.taskcount
       low
       high
-      (le-ltb 0 (get_or machines (t - 1) 0) (omega (arith, turn.vacant)))
-      (rw (get_or-set_same machines (t - 1) m 0 at) (lt-ltb 0 m positive))
-      (λ k a b ne. ap (ltb 0) (sym (get_or-set_other machines (t - 1) (k - 1) m 0 (λ e. ne (omega arith)))))
+      turn.vacant
+      (ap is_some (get_or-set_same spots (t - 1) (Some spot) None at))
+      (λ k a b ne. ap is_some (sym (get_or-set_other spots (t - 1) (k - 1) (Some spot) None (λ e. ne (omega arith)))))
       in
       let is = sofar.is in
       let most = sofar.at_most in

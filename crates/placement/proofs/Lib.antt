@@ -1,7 +1,5 @@
 -- Laws that the functions' proofs cite.
 pub mod Floors
-pub mod Entries
-pub mod Booked
 pub mod Pushing
 pub mod Appending
 pub mod Placed

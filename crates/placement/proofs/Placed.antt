@@ -5,58 +5,57 @@ use mathlib.Core.Bool.{true, false, not, ◌||◌, or-false as or_none}
 use mathlib.Core.List.Memᴰ
 use mathlib.Core.List.{List, [], ◌∷◌, ◌++◌, append-nil}
 use mathlib.Core.List.{Memᴰ}
-use mathlib.Core.Option.{Option, none, some}
-use Prim.Native.Nat.{ℕ, zero, suc, ◌+◌, ◌*◌, ◌-◌, ◌≤◌, ◌<◌}
+use mathlib.Core.Option as Rules
+use mathlib.Core.Option.{none, some}
+use Prim.Native.Nat.{ℕ, suc, ◌+◌, ◌*◌, ◌-◌, ◌≤◌, ◌<◌}
 use native.Mathlib.Nat.{sub-zero}
 use native.Mathlib.Omega.{arith}
 use native.Mathlib.Numerals.{add-one}
-use lib.Dec.{ltb, eqb}
-use lib.ListN.{length, get_or, set, replicate, length-set, length-append, length-take, get_or-replicate}
+use lib.Dec.{eqb}
+use lib.ListN.{length, set, replicate, length-set, length-append, length-take, get_or-replicate}
 use lib.Seq.{get_or-set_same, get_or-set_other}
-use borrow.Author.Tests.{eqb-true, eqb-false, eq-eqb, lt-ltb, ltb-false, not-true}
+use borrow.Author.Tests.{eqb-true, eqb-false, eq-eqb, not-true}
+use Rattle.std.proofs.Common.{Option, Some, None, is_some, IsSome, Result, Ok, Err}
 use Rattle.rules.specs.declared.Row.{Row}
 use Rattle.rules.specs.declared.Message.{Message}
 use Rattle.rules.specs.declared.Job.{Job}
 use Rattle.rules.specs.declared.Setup.{Setup}
 use Rattle.rules.specs.Sequences.{all_of}
-use Rattle.rules.specs.Words.{hold_of, row_limit, most_tasks, messages_of, task_of}
+use Rattle.rules.specs.Words.{hold_of, most_tasks, messages_of, task_of}
 use Rattle.rules.specs.Placing.{Ground, on_rows, is_task, books_task, no_row, task_row, machine_of, machine_for, placed, into, ready, next_task}
 use Rattle.rules.specs.Placing.{Trial, trial_rows, costs, try, choice, Turn, over, misses, books, turn, Placing, booked, late, place_from, place}
 use Rattle.rules.specs.Laws.{IsNext, IsKept}
 use Rattle.rules.specs.Bounds.{Between, RowInRange, largest_cost}
-use Rattle.rules.specs.Demands.{InRange}
-use Rattle.rules.proofs.Sequences.{by_test, clash, and_true, or_cases, or_right, any_append, all_mem, mem_keep, first_append, first_skip, first_mem, sum_append}
+use Rattle.rules.proofs.Sequences.{by_test, and_true, or_right, any_append, all_mem, mem_keep, first_append, first_skip, first_mem, sum_append}
 use Rattle.rules.proofs.Sequences.{map_mem}
 use Rattle.rules.proofs.Choice.{next_is_next, choice_kept}
 use Rattle.rules.proofs.Inputs.{try_shape, booked_no_task}
 use Rattle.rules.proofs.Due.{progress_none}
 use Rattle.rules.proofs.AllPlaced.{choice_places}
-use Rattle.rules.proofs.Order.{in_range_count, in_range_messages}
-use Rattle.rules.proofs.Bounds.{listed_machine, InBounds, turn_in_bounds, task_figures}
+use Rattle.rules.proofs.Order.{in_range_count, in_range_messages, in_range_ends}
+use Rattle.rules.proofs.Bounds.{listed_in_range, listed_machine, InBounds, turn_in_bounds, task_figures}
 use Rattle.rules.proofs.Counted.{due_length}
 use Rattle.rules.proofs.Apart.{AllApart, turn_apart, shares_none_apart, apart_shares_none}
 use Rattle.rules.proofs.Resources.{holds_append}
-use Rattle.timeline.specs.RowLine.{most_own, SpansOf}
+use Rattle.rules.specs.declared.answers.Admission.{Admission}
+use Rattle.timeline.specs.Lines.{LineOf}
+use Rattle.timeline.specs.RowLine.{most_own, spans_room}
+use Rattle.timeline.specs.declared.line.Timeline.{Timeline}
 use Rattle.drcd.specs.declared.TaskTurn.{TaskTurn}
 use Rattle.drcd.specs.declared.choice.Kept.{Kept}
-use Rattle.placement.specs.declared.place.Placement.{Placement}
-use Rattle.drcd.specs.Given.{StandsFor}
+use Rattle.drcd.specs.declared.inputs.Input.{Input}
+use Rattle.drcd.specs.declared.order.Spot.{Spot}
+use Rattle.placement.specs.declared.own.Entry.{Entry}
+use Rattle.placement.specs.declared.place.Late.{Late}
+use Rattle.drcd.specs.Given.{StandsFor, spot_of}
 use Rattle.drcd.specs.Inputs.{InputsOf}
 use Rattle.drcd.specs.Trials.{reach, Scene, IsTrial}
-use Rattle.placement.specs.Own.{owned, OwnRows}
-use Rattle.placement.specs.Appending.{Keeping, Appended, AppendedIs}
-use Rattle.placement.specs.Placements.{Placeable, placing_of, Placed}
-use Rattle.placement.proofs.Pushing.{spans_drawn}
+use Rattle.placement.specs.Own.{OwnRows}
+use Rattle.placement.specs.Appending.{Keeping, AppendedIs}
+use Rattle.placement.specs.Placements.{Placeable, Placed}
+use Rattle.placement.proofs.Pushing.{line_drawn_on}
 use Rattle.placement.proofs.Appending.{in_range_drawable}
 use Rattle.placement.proofs.Floors.{Released, released_none, TurnOf, release_low, release_now, released_more}
-
-pub placing_late : (rows : List Row) (t : ℕ) → 1 ≤ t → placing_of t rows ≡ late t
-placing_late rows zero h = absurd (omega arith)
-placing_late rows (suc t) h = refl
-
--- what is answered at the end
-abbrev pub ended_with : (held used cost t : ℕ) → Placement
-ended_with held used cost t = record { late = t; count = used - held; cost = cost }
 
 pub costs_at_most : (s : Setup) (rows : List Row) → ((row : Row) → Memᴰ row rows → RowInRange s row) → costs rows ≤ length rows * largest_cost
 costs_at_most s [] h = omega arith
@@ -65,62 +64,55 @@ costs_at_most s (row ∷ rows) h =
     let below = costs_at_most s rows (λ r n. h r (Memᴰ.tail n)) in
     omega arith
 
-module _ (s : Setup) (j : Job) (rows : List Row) {table row : List ℕ} {base : ℕ} {begins₀ ends₀ : List ℕ} {held : ℕ}
-    (ask : Placeable s j rows table row base begins₀ ends₀ held) where
-  abbrev range : InRange s j
-  range = ask.lent.range
-
+module _ (s : Setup) (j : Job) (rows : List Row) {base : ℕ} {line₀ : Timeline spans_room} (ask : Placeable s j rows base line₀) where
   abbrev ground : Ground
   ground = on_rows base rows
 
   -- what holds before each turn
-  pub record SoFar (machines finishes begins ends own : List ℕ) (used cost release turns : ℕ) : Type 0 where
+  pub record SoFar (spots : List (Option Spot)) (line : Timeline spans_room) (own : List Entry) (cost release turns : ℕ) : Type 0 where
     pub new : List Row
-    pub within : turns ≤ j.taskcount
-    pub machines_long : length machines ≡ most_tasks
-    pub finishes_long : length finishes ≡ most_tasks
-    pub used_is : used ≡ held + length new
+    pub spots_long : length spots ≡ most_tasks
     pub count_at_most : length new ≤ most_own
     pub cost_is : cost ≡ costs new
-    pub spans : SpansOf (rows ++ new) begins ends
+    pub line_is : LineOf (rows ++ new) line
     pub own_is : OwnRows rows new own
-    pub stands : StandsFor new machines finishes
-    pub in_bounds : InBounds s j range ask.sound new
+    pub stands : StandsFor new spots
+    pub in_bounds : InBounds s j ask.range ask.sound new
     pub apart : AllApart (rows ++ new)
-    pub floor : Released j base machines release turns
+    pub floor : Released j base spots release turns
     pub rest : place s ground j ≡ place_from s ground j (j.taskcount - turns) new
 
   -- before the first turn
-  pub so_far_none : {own₀ : List ℕ} → length own₀ ≡ owned → SoFar (replicate most_tasks 0) (replicate most_tasks 0) begins₀ ends₀ own₀ held 0 base 0
+  none_stands : (t : ℕ) → Between 1 most_tasks t → spot_of (replicate most_tasks None) t ≡ None
+  none_stands t on = let low = on.first in let high = on.last in get_or-replicate {A = Option Spot} most_tasks (t - 1) None None (omega arith)
+
+  pub so_far_none : {own : List Entry} → own ≡ [] → SoFar (replicate most_tasks None) line₀ own 0 base 0
   unfolding place
-  so_far_none long =
+  so_far_none empty =
       record {
         new = [];
-        within = omega arith;
-        machines_long = refl;
-        finishes_long = refl;
-        used_is = omega arith;
+        spots_long = refl;
         count_at_most = omega arith;
         cost_is = refl;
-        spans = rw (append-nil rows) ask.spans;
-        own_is = record { long = long; is = λ i h. absurd (omega arith); goes = λ i h. absurd (omega arith) };
+        line_is = rw (append-nil rows) ask.line_is;
+        own_is = record { long = ap length empty; is = λ i h. absurd (omega arith); goes = λ i h. absurd (omega arith) };
         stands = record {
-          placed_is = λ t on. let low = on.first in let high = on.last in ap (ltb 0) (sym (get_or-replicate most_tasks (t - 1) 0 0 (omega arith)));
-          machine_is = λ t on h. clash h refl;
-          finish_is = λ t on h. clash h refl;
+          placed_is = λ t on. ap is_some (sym (none_stands t on));
+          machine_is = λ t spot on h. absurd (let none = none_stands t on in cc);
+          finish_is = λ t spot on h. absurd (let none = none_stands t on in cc);
         };
         in_bounds = record { is_due = progress_none s j; in_range = λ row n. absurd (Memᴰ.not-nil n) };
         apart = rw (append-nil rows) (shares_none_apart rows ask.apart);
-        floor = released_none j ask.base_at_most (in_range_count s j range).1;
+        floor = released_none j ask.base_at_most (in_range_count s j ask.range).1;
         rest = ap (λ k. place_from s ground j k []) (sym (sub-zero j.taskcount));
       }
 
   -- One turn of the rules.
 
-  abbrev with_trial : ℕ → Option Trial → Turn
+  abbrev with_trial : ℕ → Rules.Option Trial → Turn
   with_trial t o = elim o [ none ↦ misses t | some trial ↦ books t trial ]
 
-  abbrev with_task : List Row → Option ℕ → Turn
+  abbrev with_task : List Row → Rules.Option ℕ → Turn
   with_task new o = elim o [ none ↦ over | some t ↦ with_trial t (choice s ground j new t) ]
 
   abbrev after_turn : ℕ → List Row → Turn → Placing
@@ -141,20 +133,13 @@ module _ (s : Setup) (j : Job) (rows : List Row) {table row : List ℕ} {base : 
   unfolding place_from turn
   turn_books new k t trial e c = ap (λ o. after_turn k new (with_task new o)) e ∙ ap (λ o. after_turn k new (with_trial t o)) c
 
-  module _ {machines finishes begins ends own : List ℕ} {used cost release turns : ℕ}
-      (p : SoFar machines finishes begins ends own used cost release turns) where
+  module _ {spots : List (Option Spot)} {line : Timeline spans_room} {own : List Entry} {cost release turns : ℕ}
+      (p : SoFar spots line own cost release turns) where
     abbrev new : List Row
     new = p.new
 
     all_in_range : (r : Row) → Memᴰ r (rows ++ new) → RowInRange s r
     all_in_range r n = ⊎_elim (ask.rows_in_range r) (p.in_bounds.in_range r) (Memᴰ.append_cases rows n)
-
-    pub used_few : (held ≤ used) × (used ≤ row_limit + most_own)
-    used_few =
-        let is = p.used_is in
-        let few = p.count_at_most in
-        let before = ask.held_few in
-        (omega arith, omega arith)
 
     pub cost_at_most : cost ≤ most_own * largest_cost
     cost_at_most =
@@ -193,48 +178,60 @@ module _ (s : Setup) (j : Job) (rows : List Row) {table row : List ℕ} {base : 
       index_listed = let last = its.is_task.last in omega arith
 
       pub index_below : i < most_tasks
-      index_below = let last = its.is_task.last in let few = (in_range_count s j range).1 in omega arith
+      index_below = let last = its.is_task.last in let few = (in_range_count s j ask.range).1 in omega arith
 
-      pub turn_of : TurnOf j machines (i + 1)
-      turn_of =
-          let is = its.is_task in
-          let few = (in_range_count s j range).1 in
-          let last = is.last in
-          let within : Between 1 most_tasks (i + 1) = record { first = is.first; last = omega arith } in
-          let none = ltb-false 0 (get_or machines (i + 1 - 1) 0) (sym (p.stands.placed_is (i + 1) within) ∙ unplaced) in
-          record { listed = is; few = few; short = (task_figures s j range is).dispatch; vacant = omega arith }
+      within : Between 1 most_tasks (i + 1)
+      within = record { first = its.is_task.first; last = let below = index_below in omega arith }
+
+      pub turn_of : TurnOf j spots (i + 1)
+      turn_of = record {
+        listed = its.is_task;
+        few = (in_range_count s j ask.range).1;
+        short = (task_figures s j ask.range its.is_task).dispatch;
+        vacant = sym (p.stands.placed_is (i + 1) within) ∙ unplaced;
+      }
+
+      -- the senders of its messages have spots
+      pub senders_found : (msg : Message) → Memᴰ msg (into j (i + 1)) → IsSome (spot_of spots msg.sender)
+      senders_found msg n =
+          let ends = in_range_ends s j ask.range msg (into_listed msg n).0 in
+          sym (p.stands.placed_is msg.sender (listed_in_range s j ask.range ends.0)) ∙ senders_placed msg n
 
       pub release_fits : turns < j.taskcount → release + (task_of j (i + 1)).dispatch ≤ reach 0
       release_fits more = release_low p.floor turn_of more
 
-      module _ (inputs : List ℕ) (turn : TaskTurn) (index : turn.t ≡ i) (more : turns < j.taskcount)
-          (release_is : turn.release ≡ release + (task_of j (i + 1)).dispatch) (used_is : turn.used ≡ used)
-          (gathered : InputsOf j new (i + 1) inputs turn.inputs) where
-        pub scene : Scene s j ground new table inputs begins ends turn
+      module _ (inputs : List Input) (more : turns < j.taskcount) (next_release : ℕ) (release_is : next_release ≡ release + (task_of j (i + 1)).dispatch)
+          (gathered : InputsOf j new (i + 1) inputs) where
+        abbrev its_turn : TaskTurn
+        its_turn = record { t = i; release = next_release }
+
+        pub scene : Scene s j ground new inputs line its_turn
         scene =
-            let before = length-append rows new in
-            let few = used_few.1 in
-            let both : turn.used ≡ length (rows ++ new) = omega (arith, p.used_is, ask.held_is) in
+            let few = p.count_at_most in
+            let held = ask.held_few in
             record {
               sound = ask.sound;
-              range = range;
-              table_is = ask.lent.table_is;
+              range = ask.range;
               drawn =
                   rw
                   (← holds_append rows new)
-                  (spans_drawn p.spans both (omega arith) (λ r n. in_range_drawable ask.sound (all_in_range r n)) p.apart);
+                  (line_drawn_on
+                  p.line_is
+                  (omega (arith, length-append rows new))
+                  (λ r n. in_range_drawable ask.sound (all_in_range r n))
+                  p.apart);
               held_end =
                   λ h n.
                   let of = map_mem hold_of (rows ++ new) (rw (← holds_append rows new) at n) in
                   rw of.2 (all_in_range of.0 of.1).ends;
-              listed = rw index its.is_task;
-              inputs_are = rw index gathered;
-              release_is = rw index (release_is ∙ release_now p.floor turn_of rows new p.stands);
+              listed = its.is_task;
+              inputs_are = gathered;
+              release_is = release_is ∙ release_now p.floor turn_of rows new p.stands;
               release_at_most = rw release_is (release_fits more);
-              senders_placed = rw index senders_placed;
-              senders_on = rw index (λ msg n. listed_machine (sender_row msg n).holder);
-              senders_done = rw index (λ msg n. (sender_row msg n).ends);
-              none_ahead = rw index (λ msg n. p.in_bounds.is_due.message_ahead msg (rw (into_listed msg n).1 unplaced));
+              senders_placed = senders_placed;
+              senders_on = λ msg n. listed_machine (sender_row msg n).holder;
+              senders_done = λ msg n. (sender_row msg n).ends;
+              none_ahead = λ msg n. p.in_bounds.is_due.message_ahead msg (rw (into_listed msg n).1 unplaced);
             }
 
         -- the trial that is kept
@@ -257,8 +254,8 @@ module _ (s : Setup) (j : Job) (rows : List Row) {table row : List ℕ} {base : 
               let on = is_kept.2.is_good.is_machine in
               rw same (record { first = on.first; last = on.last })
 
-          in_bounds_more : InBounds s j range ask.sound (new ++ trial_rows trial)
-          in_bounds_more = rw is_kept.1 (turn_in_bounds s j range ask.sound ground new (i + 1) is_kept.0 its is_kept.2 p.in_bounds)
+          in_bounds_more : InBounds s j ask.range ask.sound (new ++ trial_rows trial)
+          in_bounds_more = rw is_kept.1 (turn_in_bounds s j ask.range ask.sound ground new (i + 1) is_kept.0 its is_kept.2 p.in_bounds)
 
           apart_more : AllApart (rows ++ (new ++ trial_rows trial))
           apart_more =
@@ -269,27 +266,25 @@ module _ (s : Setup) (j : Job) (rows : List Row) {table row : List ℕ} {base : 
           all_fit : length (new ++ trial_rows trial) ≤ most_own
           all_fit =
               let all = due_length s j (new ++ trial_rows trial) in_bounds_more.is_due in
-              let tasks = (in_range_count s j range).1 in
-              let messages = in_range_messages s j range in
+              let tasks = (in_range_count s j ask.range).1 in
+              let messages = in_range_messages s j ask.range in
               let listed = length-take j.messagecount j.messages in
               omega arith
 
-          pub keeping : turn.held ≡ held → Keeping s j base rows new kept table inputs begins ends own turn
-          keeping held_same =
+          pub keeping : Keeping s j base rows new kept inputs its_turn line own
+          keeping =
               let both = length-append new (trial_rows trial) in
               let fit = all_fit in
               record {
                 scene = scene;
-                held_is = held_same ∙ ask.held_is;
-                used_is = rw held_same (used_is ∙ p.used_is);
-                held_few = rw held_same ask.held_few;
+                held_few = ask.held_few;
                 there = kept_machine;
-                trial = rw index it;
-                spans = p.spans;
+                trial = it;
+                line_is = p.line_is;
                 own_is = p.own_is;
-                in_range = rw index (λ r n. in_bounds_more.in_range r (Memᴰ.append_right new n));
-                apart = rw index (apart_shares_none (rows ++ (new ++ trial_rows trial)) apart_more);
-                fits = rw index (omega arith);
+                in_range = λ r n. in_bounds_more.in_range r (Memᴰ.append_right new n);
+                apart = apart_shares_none (rows ++ (new ++ trial_rows trial)) apart_more;
+                fits = omega arith;
               }
 
           -- where the tasks stand now
@@ -309,86 +304,86 @@ module _ (s : Setup) (j : Job) (rows : List Row) {table row : List ℕ} {base : 
           unfolding machine_of
           own_machine = rw (own_row, (try_shape s ground j new (i + 1) m).own) refl
 
-          stands_more : StandsFor (new ++ trial_rows trial) (set machines i m) (set finishes i kept.best.finish)
-          stands_more =
-              let at : i < length machines = let l = p.machines_long in let b = index_below in omega arith in
-              let at_done : i < length finishes = let l = p.finishes_long in let b = index_below in omega arith in
-              let places : (u : ℕ) → placed (new ++ trial_rows trial) u ≡ placed new u || eqb (i + 1) u
-              = λ u.
+          abbrev spot : Spot
+          spot = record { machine = m; finish = kept.best.finish }
+
+          abbrev spots_more : List (Option Spot)
+          spots_more = set spots i (Some spot)
+
+          -- the task's own spot, and those of the others
+          spot_here : (u : ℕ) → eqb (i + 1) u ≡ true → spot_of spots_more u ≡ Some spot
+          spot_here u e =
+              let at : u - 1 ≡ i = let same = eqb-true (i + 1) u e in omega arith in
+              let below : i < length spots = let long = p.spots_long in let few = index_below in omega arith in
+              rw at (get_or-set_same spots i (Some spot) None below)
+
+          spot_other : (u : ℕ) → 1 ≤ u → eqb (i + 1) u ≡ false → spot_of spots_more u ≡ spot_of spots u
+          spot_other u first e =
+              let other : u - 1 ≢ i = λ at. eqb-false (i + 1) u e (omega arith) in
+              get_or-set_other spots i (u - 1) (Some spot) None other
+
+          places : (u : ℕ) → placed (new ++ trial_rows trial) u ≡ placed new u || eqb (i + 1) u
+          places u =
               any_append (books_task u) new (trial_rows trial)
-              ∙ ap (λ x. placed new u || x) (choice_places s ground j new (i + 1) trial is_choice u) in
-              let other : (u : ℕ) → 1 ≤ u → (i + 1 ≡ u → ⊥) → u - 1 ≢ i = λ u a ne. omega (arith, ne) in
-              let here : (u : ℕ) → eqb (i + 1) u ≡ true → u - 1 ≡ i = λ u e. let same = eqb-true (i + 1) u e in omega arith in
-              record {
-                placed_is =
-                    λ u on.
-                    by_test
-                    (eqb (i + 1) u)
-                    (λ e.
-                    let positive = kept_machine.first in
-                    places u
-                    ∙ or_right (placed new u) (eqb (i + 1) u) e
-                    ∙ sym (rw (here u e, get_or-set_same machines i m 0 at) (lt-ltb 0 m positive)))
-                    (λ e.
-                    places u
-                    ∙ rw
-                    (e, get_or-set_other machines i (u - 1) m 0 (other u on.first (eqb-false (i + 1) u e)))
-                    (or_none (placed new u) ∙ p.stands.placed_is u on));
-                machine_is =
-                    λ u on there.
-                    by_test
-                    (eqb (i + 1) u)
-                    (λ e. rw (here u e, get_or-set_same machines i m 0 at, ← eqb-true (i + 1) u e) own_machine)
-                    (λ e.
-                    let old = was_placed u e (sym (places u) ∙ there) in
-                    rw (
-                      first_append no_row (books_task u) new (trial_rows trial) old,
-                      get_or-set_other machines i (u - 1) m 0 (other u on.first (eqb-false (i + 1) u e)),
-                    )
-                    (p.stands.machine_is u on old));
-                finish_is =
-                    λ u on there.
-                    by_test
-                    (eqb (i + 1) u)
-                    (λ e.
-                    rw
-                    (here u e, get_or-set_same finishes i kept.best.finish 0 at_done, ← eqb-true (i + 1) u e, own_row)
-                    (sym it.finish_is))
-                    (λ e.
-                    let old = was_placed u e (sym (places u) ∙ there) in
-                    rw (
-                      first_append no_row (books_task u) new (trial_rows trial) old,
-                      get_or-set_other finishes i (u - 1) kept.best.finish 0 (other u on.first (eqb-false (i + 1) u e)),
-                    )
-                    (p.stands.finish_is u on old));
-              }
-            where
-              was_placed : (u : ℕ) → eqb (i + 1) u ≡ false → placed new u || eqb (i + 1) u ≡ true → placed new u ≡ true
-              was_placed u e h = ⊎_elim (λ x. x) (λ x. clash x e) (or_cases (placed new u) (eqb (i + 1) u) h)
+              ∙ ap (λ x. placed new u || x) (choice_places s ground j new (i + 1) trial is_choice u)
+
+          -- another task with a spot is one that was placed before
+          was_placed : (u : ℕ) (there : Spot) → Between 1 most_tasks u → spot_of spots u ≡ Some there → placed new u ≡ true
+          was_placed u there on old = p.stands.placed_is u on ∙ ap is_some old
+
+          row_before : (u : ℕ) → placed new u ≡ true → task_row (new ++ trial_rows trial) u ≡ task_row new u
+          row_before u old = first_append no_row (books_task u) new (trial_rows trial) old
+
+          own_stands : (u : ℕ) → eqb (i + 1) u ≡ true → (there : Spot) → spot_of spots_more u ≡ Some there → there ≡ spot
+          own_stands u e there is = let here = spot_here u e in cc
+
+          stands_more : StandsFor (new ++ trial_rows trial) spots_more
+          stands_more = record {
+            placed_is =
+                λ u on.
+                by_test
+                (eqb (i + 1) u)
+                (λ e. places u ∙ or_right (placed new u) (eqb (i + 1) u) e ∙ sym (ap is_some (spot_here u e)))
+                (λ e.
+                places u
+                ∙ rw e (or_none (placed new u))
+                ∙ p.stands.placed_is u on
+                ∙ sym (ap is_some (spot_other u on.first e)));
+            machine_is =
+                λ u there on is.
+                by_test
+                (eqb (i + 1) u)
+                (λ e. rw (← eqb-true (i + 1) u e) (own_machine ∙ sym (ap (λ x. x.machine) (own_stands u e there is))))
+                (λ e.
+                let old = sym (spot_other u on.first e) ∙ is in
+                rw (row_before u (was_placed u there on old)) (p.stands.machine_is u there on old));
+            finish_is =
+                λ u there on is.
+                by_test
+                (eqb (i + 1) u)
+                (λ e.
+                rw (← eqb-true (i + 1) u e, own_row) (sym it.finish_is ∙ sym (ap (λ x. x.finish) (own_stands u e there is))))
+                (λ e.
+                let old = sym (spot_other u on.first e) ∙ is in
+                rw (row_before u (was_placed u there on old)) (p.stands.finish_is u there on old));
+          }
 
           pub so_far_more :
-              turn.held ≡ held → {begins' ends' own' : List ℕ} {used' : ℕ} →
-              AppendedIs kept table inputs begins ends own turn begins' ends' own' used' →
-              SoFar (set machines i m) (set finishes i kept.best.finish) begins' ends' own' used' (cost + kept.best.cost) turn.release (suc turns)
-          so_far_more held_same {begins'} {ends'} {own'} {used'} appended =
-              let left : Appended s j base rows new kept turn begins' ends' own' used' = appended.is s j base rows new (keeping held_same) in
-              let both = length-append new (trial_rows trial) in
-              let added : used' ≡ turn.used + length (trial_rows trial) = rw index at left.used_is in
+              {line' : Timeline spans_room} {own' : List Entry} → AppendedIs s kept inputs its_turn line own line' own' →
+              SoFar spots_more line' own' (cost + kept.best.cost) next_release (suc turns)
+          so_far_more appended =
               let again : i + 1 - 1 ≡ i = omega arith in
               record {
                 new = new ++ trial_rows trial;
-                within = more;
-                machines_long = length-set machines i m ∙ p.machines_long;
-                finishes_long = length-set finishes i kept.best.finish ∙ p.finishes_long;
-                used_is = omega (arith, p.used_is);
+                spots_long = length-set spots i (Some spot) ∙ p.spots_long;
                 count_at_most = all_fit;
                 cost_is =
                     let was = p.cost_is in
                     let spent = it.cost_is in
                     let sum = sum_append (λ row. row.cost) new (trial_rows trial) in
                     omega arith;
-                spans = rw index at left.spans;
-                own_is = rw index at left.own_is;
+                line_is = appended.line_is j base rows new keeping;
+                own_is = appended.own_is j base rows new keeping;
                 stands = stands_more;
                 in_bounds = in_bounds_more;
                 apart = apart_more;
@@ -396,9 +391,9 @@ module _ (s : Setup) (j : Job) (rows : List Row) {table row : List ℕ} {base : 
                     rw
                     release_is
                     (subst
-                    (λ k. Released j base (set machines k m) (release + (task_of j (i + 1)).dispatch) (suc turns))
+                    (λ k. Released j base (set spots k (Some spot)) (release + (task_of j (i + 1)).dispatch) (suc turns))
                     again
-                    (rw (add-one turns) at (released_more p.floor turn_of p.machines_long kept_machine.first)));
+                    (rw (add-one turns) at (released_more p.floor turn_of spot p.spots_long)));
                 rest =
                     let left_now : j.taskcount - turns ≡ suc (j.taskcount - suc turns) = omega arith in
                     p.rest
@@ -408,35 +403,47 @@ module _ (s : Setup) (j : Job) (rows : List Row) {table row : List ℕ} {base : 
 
     -- The ways that the turns end.
 
-    ended : (t : ℕ) → placing_of t new ≡ place s ground j → Placed s base rows j begins ends own (ended_with held used cost t)
-    ended t is = record {
-      new = new;
-      is = is;
-      count_is = omega (arith, p.used_is);
-      cost_is = p.cost_is;
-      in_range = p.in_bounds.in_range;
-      spans = p.spans;
-      own_is = p.own_is;
-    }
+    -- with all rows
+    module _ {count : ℕ} (count_is : count ≡ length own) where
+      abbrev admission : Result Admission Late
+      admission = Ok (record { cost = cost; rows = count })
 
-    pub turn_none : next_task j new ≡ none → turns < j.taskcount → Placed s base rows j begins ends own (ended_with held used cost 0)
-    turn_none e h =
-        let left : j.taskcount - turns ≡ suc (j.taskcount - suc turns) = omega arith in
-        ended 0 (sym (p.rest ∙ ap (λ k. place_from s ground j k new) left ∙ turn_over new (j.taskcount - suc turns) e))
+      admitted : place s ground j ≡ booked new → Placed s base rows j line own admission
+      admitted is = record {
+        new = new;
+        is = sym is;
+        admission_is = λ a e.
+            let same : a ≡ record { cost = cost; rows = count } = cc in
+            rw same (count_is ∙ p.own_is.long, p.cost_is);
+        few = p.count_at_most;
+        in_range = p.in_bounds.in_range;
+        line_is = p.line_is;
+        own_is = p.own_is;
+      }
 
+      pub turn_none : next_task j new ≡ none → turns < j.taskcount → Placed s base rows j line own admission
+      turn_none e h =
+          let left : j.taskcount - turns ≡ suc (j.taskcount - suc turns) = omega arith in
+          admitted (p.rest ∙ ap (λ k. place_from s ground j k new) left ∙ turn_over new (j.taskcount - suc turns) e)
+
+      pub all_turns : j.taskcount ≤ turns → Placed s base rows j line own admission
+      unfolding place_from
+      all_turns h =
+          let left : j.taskcount - turns ≡ 0 = omega arith in
+          admitted (p.rest ∙ ap (λ k. place_from s ground j k new) left)
+
+    -- at a task without a good trial
     pub turn_late :
         (t : ℕ) → next_task j new ≡ some t → choice s ground j new t ≡ none → turns < j.taskcount →
-        Placed s base rows j begins ends own (ended_with held used cost t)
+        Placed s base rows j line own (Err (record { task = t }))
     turn_late t e c h =
         let left : j.taskcount - turns ≡ suc (j.taskcount - suc turns) = omega arith in
-        let low = (next_is_next j new t e).is_task.first in
-        ended
-        t
-        (placing_late new t low
-        ∙ sym (p.rest ∙ ap (λ k. place_from s ground j k new) left ∙ turn_misses new (j.taskcount - suc turns) t e c))
-
-    pub all_turns : j.taskcount ≤ turns → Placed s base rows j begins ends own (ended_with held used cost 0)
-    unfolding place_from
-    all_turns h =
-        let left : j.taskcount - turns ≡ 0 = omega arith in
-        ended 0 (sym (p.rest ∙ ap (λ k. place_from s ground j k new) left))
+        record {
+          new = new;
+          is = sym (p.rest ∙ ap (λ k. place_from s ground j k new) left ∙ turn_misses new (j.taskcount - suc turns) t e c);
+          admission_is = λ a e. absurd (cc);
+          few = p.count_at_most;
+          in_range = p.in_bounds.in_range;
+          line_is = p.line_is;
+          own_is = p.own_is;
+        }

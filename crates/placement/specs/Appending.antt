@@ -9,78 +9,70 @@ use Rattle.rules.specs.Placing.{on_rows, trial_rows, try}
 use Rattle.rules.specs.Bounds.{Between, RowInRange}
 use Rattle.rules.specs.Demands.{NoSharedTick}
 use Rattle.timeline.specs.Timeline.{Drawable}
-use Rattle.timeline.specs.RowLine.{most_own, SpansOf}
+use Rattle.timeline.specs.Lines.{LineOf}
+use Rattle.timeline.specs.RowLine.{most_own, spans_room}
 use Rattle.timeline.specs.Grown.{Untaken}
+use Rattle.timeline.specs.declared.line.Timeline.{Timeline}
 use Rattle.drcd.specs.declared.TaskTurn.{TaskTurn}
-use Rattle.placement.specs.declared.own.Entry.{Entry}
 use Rattle.drcd.specs.declared.choice.Kept.{Kept}
-use Rattle.placement.specs.Own.{owned, entry_for, OwnRows}
+use Rattle.drcd.specs.declared.inputs.Input.{Input}
 use Rattle.drcd.specs.Trials.{Scene, IsTrial, AttemptBounds}
+use Rattle.placement.specs.declared.own.Entry.{Entry}
+use Rattle.placement.specs.Own.{entry_for, OwnRows}
 
 -- One row more.
 
--- the rows held, those of the job so far, and what is lent of them
-pub record Pushable (rows new : List Row) (begins ends own : List ℕ) (held used : ℕ) : Type 0 where
-  pub held_is : held ≡ length rows
-  pub used_is : used ≡ length rows + length new
+-- the timeline is that of the rows held and those of the job so far
+pub record Pushable (rows new : List Row) (line : Timeline spans_room) (own : List Entry) : Type 0 where
   pub held_few : length rows ≤ row_limit
   pub room : length new < most_own
   pub drawable : (row : Row) → Memᴰ row (rows ++ new) → Drawable (hold_of row)
   pub apart : NoSharedTick (rows ++ new)
-  pub spans : SpansOf (rows ++ new) begins ends
+  pub line_is : LineOf (rows ++ new) line
   pub own_is : OwnRows rows new own
 
-pub record AskPush (begins ends own : List ℕ) (held used : ℕ) : Type 0 where
+pub record AskPush (line : Timeline spans_room) (own : List Entry) : Type 0 where
   pub rows : List Row
   pub new : List Row
-  pub pushable : Pushable rows new begins ends own held used
+  pub pushable : Pushable rows new line own
 
 -- whatever rows they are, and whichever row has the figures, if nothing is held where it goes
-pub record Pushed (begins ends own : List ℕ) (held used : ℕ) (entry : Entry) (begins' ends' own' : List ℕ) : Type 0 where
-  pub begins_long : length begins' ≡ length begins
-  pub ends_long : length ends' ≡ length ends
-  pub own_long : length own' ≡ owned
-  pub spans_are :
-      (rows new : List Row) (row : Row) → Pushable rows new begins ends own held used → Drawable (hold_of row) →
-      Untaken (holds (rows ++ new)) (hold_of row) → entry ≡ entry_for entry.at row → SpansOf (rows ++ (new ++ (row ∷ []))) begins' ends'
+pub record Pushed (line : Timeline spans_room) (own : List Entry) (entry : Entry) (line' : Timeline spans_room) (own' : List Entry) : Type 0 where
+  pub line_is :
+      (rows new : List Row) (row : Row) → Pushable rows new line own → Drawable (hold_of row) → Untaken (holds (rows ++ new)) (hold_of row) →
+      entry ≡ entry_for entry.at row → LineOf (rows ++ (new ++ (row ∷ []))) line'
   pub own_is :
-      (rows new : List Row) (row : Row) → Pushable rows new begins ends own held used → Drawable (hold_of row) →
-      Untaken (holds (rows ++ new)) (hold_of row) → entry ≡ entry_for entry.at row → OwnRows rows (new ++ (row ∷ [])) own'
+      (rows new : List Row) (row : Row) → Pushable rows new line own → Drawable (hold_of row) → Untaken (holds (rows ++ new)) (hold_of row) →
+      entry ≡ entry_for entry.at row → OwnRows rows (new ++ (row ∷ [])) own'
 
 -- All rows of a trial.
 
 -- the trial is the rules' one of a task of the job, and its rows are in range, share no tick with those before them, and fit
-pub record Keeping (s : Setup) (j : Job) (base : ℕ) (rows new : List Row) (kept : Kept) (table inputs begins ends own : List ℕ) (turn : TaskTurn) : Type 0 where
-  pub scene : Scene s j (on_rows base rows) new table inputs begins ends turn
-  pub held_is : turn.held ≡ length rows
-  pub used_is : turn.used ≡ turn.held + length new
-  pub held_few : turn.held ≤ row_limit
+pub record Keeping (s : Setup) (j : Job) (base : ℕ) (rows new : List Row) (kept : Kept) (inputs : List Input) (turn : TaskTurn)
+    (line : Timeline spans_room) (own : List Entry) : Type 0 where
+  pub scene : Scene s j (on_rows base rows) new inputs line turn
+  pub held_few : length rows ≤ row_limit
   pub there : Between 1 s.table.machines kept.machine
   pub trial : IsTrial s j (on_rows base rows) new (turn.t + 1) kept.machine kept.best
-  pub spans : SpansOf (rows ++ new) begins ends
+  pub line_is : LineOf (rows ++ new) line
   pub own_is : OwnRows rows new own
   pub in_range : (row : Row) → Memᴰ row (trial_rows (try s (on_rows base rows) j new (turn.t + 1) kept.machine)) → RowInRange s row
   pub apart : NoSharedTick (rows ++ (new ++ trial_rows (try s (on_rows base rows) j new (turn.t + 1) kept.machine)))
   pub fits : length new + length (trial_rows (try s (on_rows base rows) j new (turn.t + 1) kept.machine)) ≤ most_own
 
-pub record AskAppend (kept : Kept) (table inputs begins ends own : List ℕ) (turn : TaskTurn) : Type 0 where
-  pub setup : Setup
+pub record AskAppend (s : Setup) (kept : Kept) (inputs : List Input) (turn : TaskTurn) (line : Timeline spans_room) (own : List Entry) : Type 0 where
   pub job : Job
   pub base : ℕ
   pub rows : List Row
   pub new : List Row
-  pub keeping : Keeping setup job base rows new kept table inputs begins ends own turn
+  pub keeping : Keeping s job base rows new kept inputs turn line own
   pub bounds : AttemptBounds kept.best
 
-pub record Appended (s : Setup) (j : Job) (base : ℕ) (rows new : List Row) (kept : Kept) (turn : TaskTurn) (begins ends own : List ℕ) (used : ℕ) : Type 0 where
-  pub used_is : used ≡ turn.used + length (trial_rows (try s (on_rows base rows) j new (turn.t + 1) kept.machine))
-  pub spans : SpansOf (rows ++ (new ++ trial_rows (try s (on_rows base rows) j new (turn.t + 1) kept.machine))) begins ends
-  pub own_is : OwnRows rows (new ++ trial_rows (try s (on_rows base rows) j new (turn.t + 1) kept.machine)) own
-
-pub record AppendedIs (kept : Kept) (table inputs begins ends own : List ℕ) (turn : TaskTurn) (begins' ends' own' : List ℕ) (r : ℕ) : Type 0 where
-  pub begins_long : length begins' ≡ length begins
-  pub ends_long : length ends' ≡ length ends
-  pub own_long : length own' ≡ owned
-  pub is :
-      (s : Setup) (j : Job) (base : ℕ) (rows new : List Row) → Keeping s j base rows new kept table inputs begins ends own turn →
-      Appended s j base rows new kept turn begins' ends' own' r
+pub record AppendedIs (s : Setup) (kept : Kept) (inputs : List Input) (turn : TaskTurn) (line : Timeline spans_room) (own : List Entry)
+    (line' : Timeline spans_room) (own' : List Entry) : Type 0 where
+  pub line_is :
+      (j : Job) (base : ℕ) (rows new : List Row) → Keeping s j base rows new kept inputs turn line own →
+      LineOf (rows ++ (new ++ trial_rows (try s (on_rows base rows) j new (turn.t + 1) kept.machine))) line'
+  pub own_is :
+      (j : Job) (base : ℕ) (rows new : List Row) → Keeping s j base rows new kept inputs turn line own →
+      OwnRows rows (new ++ trial_rows (try s (on_rows base rows) j new (turn.t + 1) kept.machine)) own'

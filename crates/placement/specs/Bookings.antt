@@ -1,4 +1,4 @@
--- Between functions: what the two functions that make a row's figures ask and give.
+-- Between functions: what the two functions that make a row ask and give.
 use Rattle.std.specs.Prelude.{◌≡◌, List, ℕ, ◌≤◌}
 use Rattle.rules.specs.declared.Row.{Row}
 use Rattle.rules.specs.declared.Message.{Message}
@@ -8,38 +8,32 @@ use Rattle.rules.specs.Words.{largest_time, largest_volume, most_tasks, run_time
 use Rattle.rules.specs.Placing.{task_booking, message_booking, machine_for}
 use Rattle.rules.specs.Bounds.{Sound, Between}
 use Rattle.timeline.specs.Timeline.{tick_limit}
-use Rattle.figures.specs.Tables.{TableOf}
 use Rattle.drcd.specs.declared.inputs.Input.{Input}
 use Rattle.placement.specs.declared.own.Entry.{Entry}
 use Rattle.drcd.specs.Inputs.{input_of}
 use Rattle.placement.specs.Own.{entry_for}
 
-pub record AskTaskEntry (table : List ℕ) (task m start run : ℕ) : Type 0 where
+pub record AskTaskEntry (s : Setup) (task m start run : ℕ) : Type 0 where
   pub task_at_most : task ≤ most_tasks
-  pub setup : Setup
-  pub sound : Sound setup
-  pub table_is : TableOf setup table
-  pub there : Between 1 setup.table.machines m
+  pub sound : Sound s
+  pub there : Between 1 s.table.machines m
   pub start_at_most : start ≤ tick_limit
   pub run_at_most : run ≤ largest_time
 
--- for every table that the row says, and every job with the run time; where the row goes is not known yet
-abbrev pub TaskEntryIs : List ℕ → (task m start run : ℕ) → Entry → Type 0
-TaskEntryIs table task m start run r =
-    (s : Setup) (j : Job) → TableOf s table → run_time j task m ≡ run → r ≡ entry_for 0 (task_booking s j task m start)
+-- for every job with the run time; where the row goes is not known yet
+abbrev pub TaskEntryIs : Setup → (task m start run : ℕ) → Entry → Type 0
+TaskEntryIs s task m start run r = (j : Job) → run_time j task m ≡ run → r ≡ entry_for 0 (task_booking s j task m start)
 
-pub record AskMessageEntry (table : List ℕ) (receiver m : ℕ) (input : Input) (start : ℕ) : Type 0 where
+pub record AskMessageEntry (s : Setup) (receiver m : ℕ) (input : Input) (start : ℕ) : Type 0 where
   pub receiver_at_most : receiver ≤ most_tasks
   pub sender_at_most : input.sender ≤ most_tasks
-  pub setup : Setup
-  pub sound : Sound setup
-  pub table_is : TableOf setup table
-  pub source : Between 1 setup.table.machines input.source
-  pub there : Between 1 setup.table.machines m
+  pub sound : Sound s
+  pub source : Between 1 s.table.machines input.source
+  pub there : Between 1 s.table.machines m
   pub volume : input.volume ≤ largest_volume
   pub start_at_most : start ≤ tick_limit
 
-abbrev pub MessageEntryIs : List ℕ → (receiver m : ℕ) → Input → (start : ℕ) → Entry → Type 0
-MessageEntryIs table receiver m input start r =
-    (s : Setup) (j : Job) (new : List Row) (msg : Message) → TableOf s table → msg.receiver ≡ receiver → input ≡ input_of new msg →
+abbrev pub MessageEntryIs : Setup → (receiver m : ℕ) → Input → (start : ℕ) → Entry → Type 0
+MessageEntryIs s receiver m input start r =
+    (j : Job) (new : List Row) (msg : Message) → msg.receiver ≡ receiver → input ≡ input_of new msg →
     r ≡ entry_for 0 (message_booking s j msg (machine_for new msg.sender) m start)

@@ -2,70 +2,50 @@
 ghost use Rattle.placement.specs.Appending.{AskPush, Pushed, AskAppend, AppendedIs};
 
 use crate::bookings::{message_entry, task_entry};
-use crate::own::{Entry, OWNED, put_entry};
+use crate::own::{Entry, Own};
 use drcd::TaskTurn;
 use drcd::choice::Kept;
-use drcd::inputs::{INPUTS, input_at};
-use figures::tables::TABLE;
-use timeline::insertion::insert_span;
+use drcd::inputs::Inputs;
+use rules::Setup;
+use timeline::SPANS;
+use timeline::line::Timeline;
 
 // One row more.
-fn push<'a>(
-    begins: &'a mut [u64],
-    ends: &'a mut [u64],
-    own: &'a mut [u64; OWNED],
-    held: usize,
-    used: usize,
-    entry: Entry,
-)
-    requires { AskPush begins.old ends.old own.old held used }
-    ensures { Pushed begins.old ends.old own.old held used entry begins.new ends.new
-        own.new }
+fn push(line: &mut Timeline<SPANS>, own: &mut Own, entry: Entry)
+    requires { AskPush line.old own.old.items }
+    ensures { Pushed line.old own.old.items entry line.new own.new.items }
 {
-    let at = insert_span(begins, ends, used, entry.begin, entry.end);
-    put_entry(
-        own,
-        used - held,
-        Entry {
-            at: at as u64,
-            begin: entry.begin,
-            end: entry.end,
-            label: entry.label,
-            cost: entry.cost,
-        },
-    );
+    let at = line.insert(entry.begin, entry.end);
+    own.push(Entry { at, ..entry });
 }
 
-// The rows of the messages that take one, then the task's own. Answers how many spans stand on the timeline then.
-pub fn append<'a>(
-    kept: Kept,
-    table: &'a [u64; TABLE],
-    inputs: &'a [u64; INPUTS],
-    begins: &'a mut [u64],
-    ends: &'a mut [u64],
-    own: &'a mut [u64; OWNED],
+// The rows of the messages that take one, then the task's own.
+pub fn append(
+    setup: &Setup,
+    kept: &Kept,
+    inputs: &Inputs,
     turn: TaskTurn,
-) -> usize
-    requires { AskAppend kept table.now inputs.now begins.old ends.old own.old turn }
-    ensures { AppendedIs kept table.now inputs.now begins.old ends.old own.old turn
-        begins.new ends.new own.new result }
+    line: &mut Timeline<SPANS>,
+    own: &mut Own,
+)
+    requires { AskAppend setup.now kept.now inputs.now.items turn line.old own.old.items }
+    ensures { AppendedIs setup.now kept.now inputs.now.items turn line.old own.old.items line.new own.new.items }
 {
-    let best = kept.best;
-    let starts = best.starts;
-    let task = (turn.t as u64) + 1;
-    let mut used = turn.used;
-    let mut i: usize = 0;
-    while i < turn.inputs {
-        let input = input_at(inputs, i);
-        if input.source != kept.machine && input.volume != 0 {
-            let entry = message_entry(table, task, kept.machine, input, starts[i]);
-            push(begins, ends, own, turn.held, used, entry);
-            used += 1;
+    let task = turn.t as u64 + 1;
+    let machine = kept.machine;
+    for (i, input) in inputs.as_slice().iter().enumerate() {
+        if input.source != machine && input.volume != 0 {
+            push(
+                line,
+                own,
+                message_entry(setup, task, machine, input, kept.best.starts[i]),
+            );
         }
-        i += 1;
     }
-    let run = best.finish - best.start;
-    let entry = task_entry(table, task, kept.machine, best.start, run);
-    push(begins, ends, own, turn.held, used, entry);
-    used + 1
+    let run = kept.best.finish - kept.best.start;
+    push(
+        line,
+        own,
+        task_entry(setup, task, machine, kept.best.start, run),
+    );
 }

@@ -1,45 +1,47 @@
-// The two functions that make a row's figures.
+// The two functions that make an entry of a row.
 ghost use Rattle.placement.specs.Bookings.{AskTaskEntry, TaskEntryIs, AskMessageEntry, MessageEntryIs};
 
 use crate::own::Entry;
 use drcd::inputs::Input;
-use figures::tables::{TABLE, fail_of, rate_of, time_of};
-use rules::codes::{label, link_number};
+use rules::codes::link_number;
+use rules::{Holder, Setup};
 use timeline::TICKS;
 
-// The row of a task on a machine, for the run time there.
-pub fn task_entry(table: &[u64; TABLE], task: u64, machine: u64, start: u64, run: u64) -> Entry
-    requires { AskTaskEntry table.now task machine start run }
-    ensures { TaskEntryIs table.now task machine start run result }
+// The entry of a task's row on a machine, for the run time there. Its place is set where it is inserted.
+pub fn task_entry(setup: &Setup, task: u64, machine: u64, start: u64, run: u64) -> Entry
+    requires { AskTaskEntry setup.now task machine start run }
+    ensures { TaskEntryIs setup.now task machine start run result }
 {
     let begin = machine * TICKS + start;
     Entry {
         at: 0,
-        begin: begin,
+        begin,
         end: begin + run,
-        label: label(0, machine, 0, task),
-        cost: rate_of(table, machine) * run,
+        holder: Holder::TaskOn {
+            machine: machine as u8,
+            task: task as u8,
+        },
+        cost: setup.rate(machine) * run,
     }
 }
 
-// The row of a message into a task, on the link from its sender's machine to that of the task.
-pub fn message_entry(
-    table: &[u64; TABLE],
-    receiver: u64,
-    machine: u64,
-    input: Input,
-    start: u64,
-) -> Entry
-    requires { AskMessageEntry table.now receiver machine input start }
-    ensures { MessageEntryIs table.now receiver machine input start result }
+// The entry of a message's row into a task, on the link from its sender's machine to that of the task.
+pub fn message_entry(setup: &Setup, receiver: u64, machine: u64, input: &Input, start: u64) -> Entry
+    requires { AskMessageEntry setup.now receiver machine input.now start }
+    ensures { MessageEntryIs setup.now receiver machine input.now start result }
 {
-    let len = time_of(table, input.source, machine) * input.volume;
+    let len = setup.link_time(input.source, machine) * input.volume;
     let begin = link_number(input.source, machine) * TICKS + start;
     Entry {
         at: 0,
-        begin: begin,
+        begin,
         end: begin + len,
-        label: label(input.source, machine, input.sender, receiver),
-        cost: fail_of(table, input.source, machine) * len,
+        holder: Holder::MessageOn {
+            source: input.source as u8,
+            target: machine as u8,
+            sender: input.sender as u8,
+            receiver: receiver as u8,
+        },
+        cost: setup.link_rate(input.source, machine) * len,
     }
 }

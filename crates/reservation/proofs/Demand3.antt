@@ -1,5 +1,5 @@
 -- Demand 3 of the code: every list of calls has one trace from an opened register, and it is the rules' run.
-use mathlib.Core.Path.{◌≡◌, refl, ap₂, subst₂}
+use mathlib.Core.Path.{◌≡◌, refl, ap₂, subst, subst₂}
 use mathlib.Core.List.{List, [], ◌∷◌}
 use Rattle.rules.specs.declared.Answer.{Answer}
 use Rattle.rules.specs.declared.Setup.{Setup}
@@ -10,6 +10,7 @@ use Rattle.rules.proofs.Demand3.{demand_3}
 use Rattle.reservation.specs.declared.Register.{Register}
 use Rattle.reservation.specs.Registers.{register_of}
 use Rattle.reservation.specs.Demands.{opened, Trace, ends, continues, Demand3OfCode}
+use Rattle.reservation.proofs.Said.{step_said}
 
 -- a trace whose steps are the rules'
 trace_there :
@@ -18,10 +19,13 @@ trace_there :
 unfolding answers after
 trace_there s [] st = ends
 trace_there s (c ∷ calls) st =
-    continues
-    {result = record { answer = (step s st c).answer; register = register_of s (step s st c).left }}
-    (record { answer_is = refl; left_is = refl })
-    (trace_there s calls (step s st c).left)
+    let said = step_said s st c in
+    let left = (step s st c).left in
+    let replies = answers (step s) left calls in
+    subst
+    (λ a. Trace (register_of s st) (c ∷ calls) (a ∷ replies) (register_of s (after (step s) left calls)))
+    said.1
+    (continues {result = record { answer = said.0; register = register_of s left }} (record { answer_is = said.1; left_is = refl }) (trace_there s calls left))
 
 -- whatever trace there is, it is that one
 trace_only :

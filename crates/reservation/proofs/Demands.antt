@@ -2,6 +2,7 @@
 use mathlib.Core.Path.{sym, ap, ◌∙◌}
 use borrow.Author.Tests.{ne_eqb}
 use Rattle.rules.specs.declared.Job.{Job}
+use Rattle.rules.specs.Answers.{answered}
 use Rattle.rules.specs.Refusals.{Call, accepted}
 use Rattle.rules.proofs.Demand1.{demand_1}
 use Rattle.rules.proofs.Demand2.{demand_2}
@@ -17,7 +18,7 @@ demand_1_of_code {r} {c} {result} steps = record {
   answered = rw steps.answer_is (demand_1 r.setup (state_of r) c).answered;
   untouched =
       λ ne.
-      let still = step_still r.setup (state_of r) c (ap accepted (sym steps.answer_is) ∙ ne_eqb result.answer.number 0 ne) in
+      let still = step_still r.setup (state_of r) c (ap accepted (sym steps.answer_is) ∙ ne_eqb (answered result.answer).number 0 ne) in
       steps.left_is ∙ ap (register_of r.setup) still;
 }
 

@@ -12,43 +12,35 @@ use Rattle.rules.specs.Words.{row_limit}
 use Rattle.rules.specs.Placing.{no_row}
 use Rattle.rules.proofs.Sequences.{get_or_mem}
 use Rattle.timeline.specs.RowLine.{slots}
-use Rattle.placement.specs.Own.{nth_entry, AskRow, RowIs}
-use Rattle.reservation.specs.Parts.{Joining, AskMore, MoreIs}
-use Rattle.placement.proofs.Entries.{label_below}
+use Rattle.placement.specs.declared.own.Entry.{Entry}
+use Rattle.placement.specs.Own.{nth_entry, RowIs}
+use Rattle.reservation.specs.Parts.{Joining, MoreIs}
 use Rattle.reservation.proofs.Slotted.{slot_next}
 
 -- after i rows
-pub record Joined (held : List Row) (count : ℕ) (own : List ℕ) (more job : ℕ) (rows : List Row) (i : ℕ) : Type 0 where
-  pub follows : (s : Setup) (old new : List Row) → Joining s old new held count own more job → rows ≡ slots row_limit (old ++ take i new)
+pub record Joined (held : List Row) (count : ℕ) (own : List Entry) (job : ℕ) (rows : List Row) (i : ℕ) : Type 0 where
+  pub follows : (s : Setup) (old new : List Row) → Joining s old new held count own job → rows ≡ slots row_limit (old ++ take i new)
 
-module _ {held : List Row} {count : ℕ} {own : List ℕ} {more job : ℕ} where
-  -- what the turn with row i asks
-  pub label_asked : AskMore held count own more job → {i : ℕ} → i < more → AskRow (nth_entry own i)
-  label_asked ask {i} below =
-      let join = ask.joining in
-      let there : i < length ask.new = omega (arith, join.more_is) in
-      let row = get_or ask.new i no_row in
-      rw (ap (λ x. x.label) (join.own_is.is i there)) (label_below join.sound (join.in_range row (get_or_mem ask.new i no_row there)).holder)
+module _
+    {held : List Row} {count : ℕ} {own : List Entry} {job : ℕ} {rows : List Row} {i : ℕ} (sofar : Joined held count own job rows i) where
+  pub joined_more : {row : Row} → i < length own → RowIs (nth_entry own i) job row → Joined held count own job (set rows (count + i) row) (i + 1)
+  joined_more {row} below is = record {
+    follows =
+        λ s old new join.
+        let there : i < length new = omega (arith, join.own_is.long) in
+        let next = get_or new i no_row in
+        let listed = get_or_mem new i no_row there in
+        let same : row ≡ next = is s next join.sound (join.in_range next listed) (join.own_is.is i there) (join.one_job next listed) in
+        let long = length-append old (take i new) in
+        let front = length-take-le i new (omega arith) in
+        let count_is = join.count_is in
+        let fits = join.fits in
+        let all : (old ++ take i new) ++ (next ∷ []) ≡ old ++ take (i + 1) new
+        = append_assoc old (take i new) (next ∷ []) ∙ ap (λ l. old ++ l) (sym (ap (λ n. take n new) (add-one i) ∙ take-suc new i no_row there)) in
+        rw (sofar.follows s old new join, same)
+        (slot_next row_limit (old ++ take i new) next (omega arith) (omega arith) ∙ ap (slots row_limit) all);
+  }
 
-  module _ {rows : List Row} {i : ℕ} (sofar : Joined held count own more job rows i) where
-    pub joined_more : {row : Row} → i < more → RowIs (nth_entry own i) job row → Joined held count own more job (set rows (count + i) row) (i + 1)
-    joined_more {row} below is = record {
-      follows =
-          λ s old new join.
-          let there : i < length new = omega (arith, join.more_is) in
-          let next = get_or new i no_row in
-          let listed = get_or_mem new i no_row there in
-          let same : row ≡ next = is s next join.sound (join.in_range next listed) (join.own_is.is i there) (join.one_job next listed) in
-          let long = length-append old (take i new) in
-          let front = length-take-le i new (omega arith) in
-          let count_is = join.count_is in
-          let fits = join.fits in
-          let all : (old ++ take i new) ++ (next ∷ []) ≡ old ++ take (i + 1) new
-          = append_assoc old (take i new) (next ∷ []) ∙ ap (λ l. old ++ l) (sym (ap (λ n. take n new) (add-one i) ∙ take-suc new i no_row there)) in
-          rw (sofar.follows s old new join, same)
-          (slot_next row_limit (old ++ take i new) next (omega arith) (omega arith) ∙ ap (slots row_limit) all);
-    }
-
-    pub joined_all : more ≤ i → MoreIs held count own more job rows
-    joined_all all = λ s old new join.
-        sofar.follows s old new join ∙ ap (λ l. slots row_limit (old ++ l)) (take_all i new (omega (arith, join.more_is)))
+  pub joined_all : length own ≤ i → MoreIs held count own job rows
+  joined_all all = λ s old new join.
+      sofar.follows s old new join ∙ ap (λ l. slots row_limit (old ++ l)) (take_all i new (omega (arith, join.own_is.long)))

@@ -5,7 +5,7 @@ pub mod Joined
 pub mod Staying
 pub mod Leaving
 pub mod Stepped
-pub mod Counted
 pub mod Sighted
+pub mod Said
 pub mod Demands
 pub mod Demand3

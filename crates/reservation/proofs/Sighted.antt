@@ -10,31 +10,33 @@ use Rattle.rules.specs.declared.Seen.{Seen}
 use Rattle.rules.specs.declared.Seen.TheVariants.{Idle, Booked, NoMachine}
 use Rattle.rules.specs.Words.{resource, hold_of, holds, horizon, view}
 use Rattle.rules.specs.Asked.{HasMachine}
-use Rattle.rules.specs.Codes.{resource_number, label_bound}
+use Rattle.rules.specs.Codes.{resource_number}
 use Rattle.rules.specs.Placing.{no_row}
 use Rattle.rules.specs.Bounds.{RowInRange}
 use Rattle.rules.specs.Refusals.{look}
 use Rattle.rules.specs.Laws.{IsMachine, RunsAt}
 use Rattle.rules.specs.Demands.{NoSharedTick, SeenBy}
-use Rattle.rules.proofs.Sequences.{by_less, mem_get_or, get_or_mem, mem_map}
+use Rattle.rules.proofs.Sequences.{by_less, mem_get_or, mem_map}
 use Rattle.rules.proofs.Apart.{shares_none_apart}
 use Rattle.rules.proofs.Demand1.{demand_1_look}
+use Rattle.timeline.specs.declared.line.Timeline.{Timeline}
 use Rattle.timeline.specs.declared.notes.Note.{Note}
 use Rattle.timeline.specs.Timeline.{known_machine, tick_room, Drawable, Drawn, FirstAfter, AskFirst}
-use Rattle.timeline.specs.RowLine.{row_begin, row_end, line_of}
-use Rattle.timeline.specs.Notes.{nth_note, AskNote}
+use Rattle.timeline.specs.Lines.{LineOf, DrawnOn, span_at}
+use Rattle.timeline.specs.Notes.{no_note}
+use Rattle.timeline.specs.RowLine.{spans_room, row_begin, row_end, line_of}
 use Rattle.timeline.proofs.Drawing.{known_same, begins_ascend, ends_ascend}
-use Rattle.timeline.proofs.Columns.{column_at, note_stands}
-use Rattle.timeline.proofs.Line.{line_long, line_from, line_drawn}
+use Rattle.timeline.proofs.ColumnLaws.{column_at}
 use Rattle.placement.specs.declared.own.Entry.{Entry}
-use Rattle.placement.specs.Own.{entry_for, RowIs}
+use Rattle.placement.specs.Own.{RowIs}
+use Rattle.placement.proofs.Pushing.{line_drawn_on}
+use Rattle.placement.proofs.Appending.{in_range_drawable}
+use Rattle.timetable.proofs.Standing as Standing
 use Rattle.reservation.specs.declared.Register.{Register}
 use Rattle.reservation.specs.declared.Register.TheInside.{Inside}
 use Rattle.reservation.specs.Registers.{state_of}
 use Rattle.reservation.specs.Calls.{Looks}
-use Rattle.placement.proofs.Appending.{in_range_drawable}
-use Rattle.placement.proofs.Entries.{label_below}
-use Rattle.reservation.proofs.Values.{FieldsOf, count_is, count_few, columns_long}
+use Rattle.reservation.proofs.Values.{FieldsOf, count_is}
 
 -- where a tick of a machine is on the line
 abbrev pub place_of : (m tick : ℕ) → ℕ
@@ -84,64 +86,73 @@ one_runs rows {m} {tick} apart {a} {b} a_listed b_listed a_runs b_runs =
 
 -- The line of the fields of a register.
 module _ {r : Register} {a : Inside} (of : FieldsOf r a) where
-  held_drawn : Drawn (holds r.state.rows) a.begins a.ends a.status.count
+  abbrev its_line : Timeline spans_room
+  its_line = a.timetable.line
+
+  line_is : LineOf r.state.rows its_line
+  line_is = record {
+    spans = record { begins_are = ap (λ x. x.line.begins) of.timetable.is; ends_are = ap (λ x. x.line.ends) of.timetable.is };
+    count_is = count_is of;
+  }
+
+  held_drawn : DrawnOn (holds r.state.rows) its_line
   held_drawn =
       let few = of.timetable.bounded.count in
-      let drawn =
-      line_drawn
-      r.state.rows
+      line_drawn_on
+      line_is
       (omega arith)
       (λ row m. in_range_drawable of.timetable.sound (of.timetable.bounded.rows row m))
       (shares_none_apart r.state.rows of.timetable.bounded.apart)
-      in
-      let spans = of.timetable.spans in
-      subst (Drawn (holds r.state.rows) a.begins a.ends) (sym (count_is of)) (rw (spans.begins_are, spans.ends_are) drawn)
 
   -- what the search asks
-  pub ends_asked : AskFirst a.ends a.status.count
+  pub ends_asked : AskFirst its_line.ends its_line.count
   ends_asked = record { long = held_drawn.ends_long; ascend = ends_ascend held_drawn }
 
   -- the row at an index
-  module _ {at : ℕ} (below : at < a.status.count) where
+  module _ {at : ℕ} (below : at < its_line.count) where
     abbrev its_row : Row
     its_row = get_or (line_of r.state.rows) at no_row
 
     on_line : at < length (line_of r.state.rows)
-    on_line = omega (arith, line_long r.state.rows, sym (count_is of))
+    on_line = omega (arith, Standing.count_is of.timetable)
 
     its_row_held : Memᴰ its_row r.state.rows
-    its_row_held = line_from r.state.rows (get_or_mem (line_of r.state.rows) at no_row on_line)
+    its_row_held = Standing.row_there of.timetable at below
 
     its_row_range : RowInRange r.setup its_row
     its_row_range = of.timetable.bounded.rows its_row its_row_held
 
-    begin_there : get_or a.begins at 0 ≡ row_begin its_row
-    begin_there = ap (λ l. get_or l at 0) of.timetable.spans.begins_are ∙ column_at row_begin (line_of r.state.rows) at on_line
+    begin_there : get_or its_line.begins at 0 ≡ row_begin its_row
+    begin_there = ap (λ l. get_or l at 0) line_is.spans.begins_are ∙ column_at row_begin (line_of r.state.rows) at 0 on_line
 
-    end_there : get_or a.ends at 0 ≡ row_end its_row
-    end_there = ap (λ l. get_or l at 0) of.timetable.spans.ends_are ∙ column_at row_end (line_of r.state.rows) at on_line
+    end_there : get_or its_line.ends at 0 ≡ row_end its_row
+    end_there = ap (λ l. get_or l at 0) line_is.spans.ends_are ∙ column_at row_end (line_of r.state.rows) at 0 on_line
 
-    job_there : get_or a.jobs at 0 ≡ its_row.job
-    job_there = ap (λ l. get_or l at 0) of.timetable.jobs_are ∙ column_at (λ row. row.job) (line_of r.state.rows) at on_line
+    job_there : get_or a.timetable.jobs at 0 ≡ its_row.job
+    job_there = ap (λ l. get_or l at 0) (Standing.jobs_are of.timetable) ∙ column_at (λ row. row.job) (line_of r.state.rows) at 0 on_line
 
-    pub note_asked : AskNote a.notes at
-    note_asked = record { long = (columns_long of).notes_long; there = omega (arith, count_few of) }
+    -- the figures at the index
+    abbrev pub entry_there : ℕ × ℕ → Note → Entry
+    entry_there span note = record { at = at; begin = span.0; end = span.1; holder = note.holder; cost = note.cost }
 
-    module _ {note : Note} (noted : note ≡ nth_note a.notes at) where
-      -- the figures at the index
-      abbrev pub entry_there : Entry
-      entry_there = record { at = 0; begin = get_or a.begins at 0; end = get_or a.ends at 0; label = note.label; cost = note.cost }
-
-      entry_is : entry_there ≡ entry_for 0 its_row
-      entry_is =
-          let stands = noted ∙ ap (λ l. nth_note l at) of.timetable.notes_are ∙ note_stands _ (line_of r.state.rows) at on_line in
-          λ i. record { at = 0; begin = begin_there i; end = end_there i; label = (stands i).label; cost = (stands i).cost }
-
-      pub label_there : note.label < label_bound
-      label_there = rw (ap (λ x. x.label) entry_is) (label_below of.timetable.sound its_row_range.holder)
-
-      row_is : {row : Row} → RowIs entry_there (get_or a.jobs at 0) row → row ≡ its_row
-      row_is is = is r.setup its_row of.timetable.sound its_row_range entry_is (sym job_there)
+    row_is :
+        {span : ℕ × ℕ} {row : Row} → span ≡ span_at its_line at → RowIs (entry_there span (get_or a.timetable.notes at no_note)) (get_or a.timetable.jobs at 0) row →
+        row ≡ its_row
+    row_is span_is is =
+        let noted = Standing.note_at of.timetable at below in
+        is
+        r.setup
+        its_row
+        of.timetable.sound
+        its_row_range
+        (λ i. record {
+          at = at;
+          begin = (ap (λ x. x.0) span_is ∙ begin_there) i;
+          end = (ap (λ x. x.1) span_is ∙ end_there) i;
+          holder = (noted i).holder;
+          cost = (noted i).cost;
+        })
+        (sym job_there)
 
 -- What is seen in a register.
 module _ (r : Register) (m tick : ℕ) where
@@ -179,20 +190,20 @@ module _ (r : Register) (m tick : ℕ) where
             as_seen (is ∙ ap Booked (one_runs r.state.rows of.timetable.bounded.apart seen.0 listed seen.1 runs))
         go NoMachine is = absurd ((as_seen is).seen_by.no_machine.0 refl is_machine)
 
-    module _ {at : ℕ} (first : FirstAfter a.ends a.status.count (place_of m tick) at) where
+    module _ {at : ℕ} (first : FirstAfter a.timetable.line.ends a.timetable.line.count (place_of m tick) at) where
       -- no span ends after the tick, or the first that does begins later
-      pub sees_none : (at < a.status.count → place_of m tick < get_or a.begins at 0) → Looks r m tick Idle
+      pub sees_none : (at < a.timetable.line.count → place_of m tick < get_or a.timetable.line.begins at 0) → Looks r m tick Idle
       sees_none later = sees_idle (none_runs (held_drawn of) first later)
 
       -- it begins at the tick or before: its row is made of its figures
       pub sees_its_row :
-          tick ≤ horizon → (below : at < a.status.count) → get_or a.begins at 0 ≤ place_of m tick →
-          {note : Note} (noted : note ≡ nth_note a.notes at) {row : Row} → RowIs (entry_there of below noted) (get_or a.jobs at 0) row →
-          Looks r m tick (Booked row)
-      sees_its_row early below begun noted is =
+          tick ≤ horizon → (below : at < a.timetable.line.count) → get_or a.timetable.line.begins at 0 ≤ place_of m tick →
+          {span : ℕ × ℕ} {row : Row} → span ≡ span_at a.timetable.line at →
+          RowIs (entry_there of below span (get_or a.timetable.notes at no_note)) (get_or a.timetable.jobs at 0) row → Looks r m tick (Booked row)
+      sees_its_row early below begun span_is is =
           let has : HasMachine m = record { first = is_machine.first; last = omega (arith, is_machine.last, of.timetable.sound.room) } in
           rw
-          (row_is of below noted is)
+          (row_is of below span_is is)
           (sees_row
           (its_row of below)
           (its_row_held of below)

@@ -1,13 +1,18 @@
--- Rows in slots: a row goes into the first blank one.
+-- Rows in slots: what is made by default is a blank row, and a row goes into the first blank one.
 use mathlib.Core.Path.{◌≡◌, sym, ap, ◌∙◌}
 use mathlib.Core.List.{List, [], ◌∷◌, ◌++◌}
 use Prim.Native.Nat.{ℕ, suc, ◌-◌, ◌<◌}
 use native.Mathlib.Omega.{arith}
 use lib.ListN.{length, set, replicate, length-append}
 use lib.Seq.{set-append_seam, append_snoc}
+use Rattle.rules.specs.declared.Holder.TheVariants.{TaskOn}
 use Rattle.rules.specs.declared.Row.{Row}
 use Rattle.rules.specs.Placing.{no_row}
 use Rattle.timeline.specs.RowLine.{slots}
+
+pub blank_is :
+    (row : Row) → (row.holder ≡ TaskOn 0 0) × ((row.job ≡ 0) × ((row.start ≡ 0) × ((row.finish ≡ 0) × (row.cost ≡ 0)))) → row ≡ no_row
+blank_is row (holder, (job, (start, (finish, cost)))) = λ i. record { holder = holder i; job = job i; start = start i; finish = finish i; cost = cost i }
 
 pub slot_next :
     (room : ℕ) (rows : List Row) (row : Row) {at : ℕ} → at ≡ length rows → length rows < room → set (slots room rows) at row ≡ slots room (rows ++ (row ∷ []))

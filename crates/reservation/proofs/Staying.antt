@@ -15,8 +15,8 @@ use Rattle.rules.specs.Words.{of_job, row_limit}
 use Rattle.rules.specs.Placing.{no_row}
 use Rattle.rules.proofs.Sequences.{by_test, any_witness, any_mem, keep_mem, mem_keep, keep_append, length_keep, get_or_mem}
 use Rattle.timeline.specs.RowLine.{line_of, slots}
-use Rattle.timeline.proofs.Line.{line_long}
-use Rattle.timeline.proofs.Columns.{column_long}
+use Rattle.timeline.proofs.RowLines.{line_long}
+use Rattle.timetable.specs.declared.Timetable.{Timetable}
 use Rattle.timetable.specs.Marks.{AskJobs, HeldIs, WholeJobs}
 use Rattle.timetable.proofs.Lines.{any_line}
 use Rattle.reservation.specs.Parts.{Staying, AskStay}
@@ -43,35 +43,28 @@ stays_with_its_job leaving rows whole {row} listed =
     (λ s. e ∙ sym s))
 
 -- after i rows
-pub record StayedSo (held : List Row) (count : ℕ) (jobs : List ℕ) (left : ℕ) (rows : List Row) (kept i : ℕ) : Type 0 where
+pub record StayedSo (held : List Row) (count : ℕ) (t : Timetable) (rows : List Row) (kept i : ℕ) : Type 0 where
   pub kept_few : kept ≤ i
-  pub kept_is : (all : List Row) (leaving : Row → Bool) → Staying all leaving held count jobs left → kept ≡ length (stay leaving (take i all))
-  pub rows_are : (all : List Row) (leaving : Row → Bool) → Staying all leaving held count jobs left → rows ≡ slots row_limit (stay leaving (take i all))
+  pub kept_is : (all : List Row) (leaving : Row → Bool) → Staying all leaving held count t → kept ≡ length (stay leaving (take i all))
+  pub rows_are : (all : List Row) (leaving : Row → Bool) → Staying all leaving held count t → rows ≡ slots row_limit (stay leaving (take i all))
 
-module _ {held : List Row} {count : ℕ} {jobs : List ℕ} {left : ℕ} where
+module _ {held : List Row} {count : ℕ} {t : Timetable} where
   -- the slots up to the count are the rows
-  listed : (all : List Row) (leaving : Row → Bool) → Staying all leaving held count jobs left → take count held ≡ all
+  listed : (all : List Row) (leaving : Row → Bool) → Staying all leaving held count t → take count held ≡ all
   listed all leaving staying = rw (staying.count_is, staying.held_is) (take-append_seam all _)
 
-  pub jobs_asked : AskStay held count jobs left → AskJobs jobs left
+  pub jobs_asked : AskStay held count t → AskJobs t.line.count
   jobs_asked ask =
       let staying = ask.staying in
-      let line = line_of (stay ask.leaving ask.rows) in
-      let fewer = length_keep (λ row. not (ask.leaving row)) ask.rows in
-      let few = staying.few in
-      let long = line_long (stay ask.leaving ask.rows) in
-      record {
-        long = ap length staying.jobs_are ∙ column_long (λ row. row.job) line (omega arith);
-        few = omega (arith, staying.left_is);
-      }
+      omega (arith, length_keep (λ row. not (ask.leaving row)) ask.rows, staying.few, staying.left_is)
 
   -- One row more.
   module _
-      {rows : List Row} {kept i : ℕ} (sofar : StayedSo held count jobs left rows kept i) (below : i < length (take count held))
-      {found : Bool} (is : HeldIs jobs left (get_or (take count held) i no_row).job found) where
+      {rows : List Row} {kept i : ℕ} (sofar : StayedSo held count t rows kept i) (below : i < length (take count held))
+      {found : Bool} (is : HeldIs t.jobs t.line.count (get_or (take count held) i no_row).job found) where
     -- the row at its index, if it stays
     one_more :
-        (all : List Row) (leaving : Row → Bool) → Staying all leaving held count jobs left →
+        (all : List Row) (leaving : Row → Bool) → Staying all leaving held count t →
         stay leaving (take (i + 1) all) ≡ stay leaving (take i all) ++ cons_if found (get_or (take count held) i no_row) []
     one_more all leaving staying =
         let same = listed all leaving staying in
@@ -87,9 +80,9 @@ module _ {held : List Row} {count : ℕ} {jobs : List ℕ} {left : ℕ} where
         ∙ ap (stay leaving) (take-suc all i no_row there)
         ∙ keep_append (λ row. not (leaving row)) (take i all) (get_or all i no_row ∷ []))
 
-    pub stayed_gone : found ≡ false → StayedSo held count jobs left rows kept (i + 1)
+    pub stayed_gone : found ≡ false → StayedSo held count t rows kept (i + 1)
     stayed_gone e =
-        let same : (all : List Row) (leaving : Row → Bool) → Staying all leaving held count jobs left →
+        let same : (all : List Row) (leaving : Row → Bool) → Staying all leaving held count t →
         stay leaving (take i all) ≡ stay leaving (take (i + 1) all)
         = λ all leaving staying. sym (rw e at one_more all leaving staying ∙ append-nil (stay leaving (take i all))) in
         record {
@@ -98,10 +91,10 @@ module _ {held : List Row} {count : ℕ} {jobs : List ℕ} {left : ℕ} where
           rows_are = λ all leaving staying. sofar.rows_are all leaving staying ∙ ap (slots row_limit) (same all leaving staying);
         }
 
-    pub stayed_more : found ≡ true → StayedSo held count jobs left (set rows kept (get_or (take count held) i no_row)) (kept + 1) (i + 1)
+    pub stayed_more : found ≡ true → StayedSo held count t (set rows kept (get_or (take count held) i no_row)) (kept + 1) (i + 1)
     stayed_more e =
         let row = get_or (take count held) i no_row in
-        let next : (all : List Row) (leaving : Row → Bool) → Staying all leaving held count jobs left →
+        let next : (all : List Row) (leaving : Row → Bool) → Staying all leaving held count t →
         stay leaving (take i all) ++ (row ∷ []) ≡ stay leaving (take (i + 1) all)
         = λ all leaving staying. sym (rw e at one_more all leaving staying) in
         record {

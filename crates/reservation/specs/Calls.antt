@@ -3,6 +3,7 @@ use Rattle.std.specs.Prelude.{◌≡◌, ℕ}
 use Rattle.rules.specs.declared.Job.{Job}
 use Rattle.rules.specs.declared.Seen.{Seen}
 use Rattle.rules.specs.Words.{view}
+use Rattle.rules.specs.Answers.{answered}
 use Rattle.rules.specs.Refusals.{Call, submits, withdraws, advances, step, look}
 use Rattle.rules.specs.Demands.{SeenBy}
 use Rattle.reservation.specs.declared.Register.{Register}
@@ -11,7 +12,7 @@ use Rattle.reservation.specs.Registers.{state_of, register_of}
 
 -- A call: the answer is the rules', and the register left is the one that stands for the state that the rules leave.
 pub record Steps (r : Register) (c : Call) (result : Reply) : Type 0 where
-  pub answer_is : result.answer ≡ (step r.setup (state_of r) c).answer
+  pub answer_is : answered result.answer ≡ (step r.setup (state_of r) c).answer
   pub left_is : result.register ≡ register_of r.setup (step r.setup (state_of r) c).left
 
 abbrev pub Submits : Register → Job → Reply → Type 0

@@ -7,6 +7,7 @@ use Rattle.rules.specs.declared.Setup.{Setup}
 use Rattle.rules.specs.Words.{fresh, view}
 use Rattle.rules.specs.Placing.{costs}
 use Rattle.rules.specs.Withdrawing.{admit}
+use Rattle.rules.specs.Answers.{answered as answer_of}
 use Rattle.rules.specs.Refusals.{answers}
 use Rattle.rules.specs.Refusals as Rules
 use Rattle.rules.specs.Journal.{empty, journal_step}
@@ -20,15 +21,15 @@ use Rattle.reservation.specs.Calls.{Steps}
 -- Demand 1: a call's whole answer is that of its first test that refuses, and a refusal leaves the very same register.
 -- (What a look answers is `SeenBy`, which its contract has.)
 pub record Demand1OfCode (r : Register) (c : Rules.Call) (result : Reply) : Type 0 where
-  pub answered : AnsweredBy (tests_for r.setup (view (state_of r)) c) result.answer
-  pub untouched : result.answer.number ≢ 0 → result.register ≡ r
+  pub answered : AnsweredBy (tests_for r.setup (view (state_of r)) c) (answer_of result.answer)
+  pub untouched : (answer_of result.answer).number ≢ 0 → result.register ≡ r
 
 -- Demand 2: a job is admitted exactly when DRCD places it, with DRCD's rows.
 pub record Demand2OfCode (r : Register) (j : Job) (result : Reply) : Type 0 where
-  pub admitted : (result.answer.number ≡ 0) ↔ ((rows : List Row) × Admissible r.setup (view (state_of r)) j rows)
+  pub admitted : ((answer_of result.answer).number ≡ 0) ↔ ((rows : List Row) × Admissible r.setup (view (state_of r)) j rows)
   pub answered :
       (rows : List Row) → Admissible r.setup (view (state_of r)) j rows →
-      result.answer ≡ record { number = 0; task = 0; cost = costs rows; rows = length rows }
+      answer_of result.answer ≡ record { number = 0; task = 0; cost = costs rows; rows = length rows }
   pub with_its_rows :
       (rows : List Row) → Admissible r.setup (view (state_of r)) j rows → result.register ≡ register_of r.setup (admit (state_of r) rows)
 
@@ -43,7 +44,7 @@ pub data Trace : Register → List Rules.Call → List Answer → Register → T
   ends : {r : Register} → Trace r [] [] r
   continues :
       {r last : Register} {c : Rules.Call} {calls : List Rules.Call} {replies : List Answer} {result : Reply} →
-      Steps r c result → Trace result.register calls replies last → Trace r (c ∷ calls) (result.answer ∷ replies) last
+      Steps r c result → Trace result.register calls replies last → Trace r (c ∷ calls) (answer_of result.answer ∷ replies) last
 
 pub record Demand3OfCode (s : Setup) (calls : List Rules.Call) : Type 0 where
   -- there is a trace from an opened register

@@ -3,6 +3,5 @@ pub mod Standing
 pub mod Fields
 pub mod Registers
 pub mod Calls
-pub mod Kinds
 pub mod Demands
 pub mod Parts

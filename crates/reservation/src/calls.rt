@@ -1,16 +1,9 @@
 // One call of any kind, applied to a register.
 ghost use Rattle.reservation.specs.Calls.{Steps};
-ghost use Rattle.reservation.specs.Kinds.{call_of};
+ghost use Rattle.rules.specs.Kinds.{call_of};
 
 use crate::{Register, Reply};
-use rules::Job;
-
-#[derive(Clone, Copy)]
-pub enum Call {
-    Submit(Job),
-    Withdraw(u64),
-    Advance(u64),
-}
+use rules::Call;
 
 impl Register {
     pub fn apply(self, call: Call) -> Reply

@@ -1,38 +1,29 @@
-// The register: booked rows, a clock and a total, changed by calls alone. A call is made over the timetable, lent as columns (`timetable`, `admission`); then a
-// function here makes the register that is left.
+// The register: booked rows, a clock and a total, changed by calls alone. A call is made over the timetable (`timetable`, `admission`); then a function here makes
+// the register that is left.
 #![tactic(auto)]
 
 pub mod calls;
-mod removal;
-mod rows;
+mod changes;
 mod sight;
-mod submission;
 
 ghost use Rattle.std.specs.Prelude.{◌≡◌, length};
 ghost use Rattle.rules.specs.Words.{fresh, setup_by_default, row_limit};
 ghost use Rattle.timeline.specs.RowLine.{slots};
 ghost use Rattle.reservation.specs.Registers.{register_of};
 
-use rules::rows::blank;
+use rules::answers::{Admission, Refusal};
 use rules::tables::default_setup;
-use rules::{Answer, HORIZON, MESSAGES, ROWS, Row, Setup, TASKS};
+use rules::{HORIZON, MESSAGES, ROWS, Row, Setup, TASKS};
 use std::marker::Model;
-use timeline::SPANS;
-use timeline::notes::NOTES;
-use timetable::{NEVER, Status};
+use timetable::Timetable;
 
-// A register is what it was opened with, its clock, its rows and its total. The soonest end and the columns are kept so that a call need not look through the
-// rows: all spans on one timeline, and for each the number of its job and what is noted of it. Each is a definition over the rows, and what is not used is
-// blank, so that equal registers are equal values.
+// A register is what it was opened with, its clock, its rows in the order of their admission, and its total. The timetable is kept so that a call need not look
+// through the rows: it is made of them, and what is not used is blank, so that equal registers are equal values.
 #[derive(Clone, Copy)]
 pub struct Register {
     setup: Setup,
-    status: Status,
+    timetable: Timetable,
     rows: [Row; ROWS],
-    begins: [u64; SPANS],
-    ends: [u64; SPANS],
-    jobs: [u16; SPANS],
-    notes: [u64; NOTES],
 }
 
 // Clauses see what a register was opened with and the state of the rules that it stands for.
@@ -54,10 +45,10 @@ impl Model for Register {
     ghost inverse_ok = { λ a kept. sym kept.kept };
 }
 
-// The answer to a call, and the register that it leaves. A withdrawal and a clock move answer a number alone: the other figures are 0.
+// The answer to a call, and the register that it leaves: if it was refused, the very same.
 #[derive(Clone, Copy)]
 pub struct Reply {
-    pub answer: Answer,
+    pub answer: Result<Admission, Refusal>,
     pub register: Register,
 }
 
@@ -76,37 +67,28 @@ impl Register {
     {
         Self {
             setup: default_setup(),
-            status: Status {
-                clock: 0,
-                count: 0,
-                total: 0,
-                soonest: NEVER,
-            },
-            rows: [blank(); Self::ROWS],
-            begins: [0; SPANS],
-            ends: [0; SPANS],
-            jobs: [0; SPANS],
-            notes: [0; NOTES],
+            timetable: Timetable::new(),
+            rows: [Row::default(); Self::ROWS],
         }
     }
 
     pub fn clock(self) -> u64
         ensures { result ≡ self.state.calendar.clock }
     {
-        self.status.clock
+        self.timetable.clock
     }
 
     pub fn total(self) -> u64
         ensures { result ≡ self.state.total }
     {
-        self.status.total
+        self.timetable.total
     }
 
     // How many rows are held.
     pub fn count(self) -> usize
         ensures { result ≡ length self.state.rows }
     {
-        self.status.count
+        self.timetable.line.count()
     }
 
     // The slots of all rows; those past the count are blank.

@@ -2,11 +2,9 @@
 ghost use Rattle.reservation.specs.Calls.{Looks};
 
 use crate::Register;
-use placement::own::{Entry, row_of};
+use placement::own::Entry;
 use rules::{HORIZON, Seen};
 use timeline::TICKS;
-use timeline::notes::note_at;
-use timeline::search::first_after;
 
 impl Register {
     // The first span on the timeline that ends after the tick holds it, or none does.
@@ -20,22 +18,22 @@ impl Register {
             return Seen::Idle;
         }
         let place = machine * TICKS + tick;
-        let count = self.status.count;
-        // The columns are copied alone: a loan of a field would copy the whole register.
-        let ends = self.ends;
-        let at = first_after(&ends, count, place);
-        if at == count || place < self.begins[at] {
+        // The timetable is copied alone: a loan of a field of `self` would copy the whole register.
+        let timetable = self.timetable;
+        let line = &timetable.line;
+        let at = line.first_after(place);
+        if at == line.count() || place < line.span(at).0 {
             return Seen::Idle;
         }
-        let notes = self.notes;
-        let note = note_at(&notes, at);
+        let (begin, end) = line.span(at);
+        let note = timetable.notes[at];
         let entry = Entry {
-            at: 0,
-            begin: self.begins[at],
-            end: ends[at],
-            label: note.label,
+            at,
+            begin,
+            end,
+            holder: note.holder,
             cost: note.cost,
         };
-        Seen::Booked(row_of(entry, self.jobs[at]))
+        Seen::Booked(entry.row(timetable.jobs[at]))
     }
 }

@@ -6,38 +6,28 @@ mod jobs;
 mod writing;
 
 use jobs::checked;
-use lines::line::Reading;
 use std::io;
 use std::io::Read;
 use texts::job::read_job;
 use writing::Count;
 
-fn print_count(rt: &impl Print, key: &[u8], n: u64) -> io::Result<()> {
-    rt.write_all(key)?;
-    println!(rt; "{n}")
-}
-
 // The texts, one after the other: each ends where the next begins.
 fn check_all(rt: &impl Print, text: &[u8]) -> io::Result<()> {
-    let mut at = 0;
+    let mut rest = text;
     let mut jobs: u64 = 0;
-    let mut count = Count {
-        tried: 0,
-        different: 0,
-    };
-    while at < text.len() {
-        let rest = &text[at..];
-        let read = read_job(rest);
-        let Reading::Read(_, next) = read.reading else {
+    let mut count = Count::default();
+    while !rest.is_empty() {
+        let Ok(read) = read_job(rest) else {
             return println!(rt; "a text cannot be read");
         };
-        count = checked(read.job, &rest[..next], count);
+        let (first, after) = rest.split_at(read.next);
+        checked(&read.value, first, &mut count);
         jobs += 1;
-        at += next;
+        rest = after;
     }
-    print_count(rt, b"jobs=", jobs)?;
-    print_count(rt, b"tried=", count.tried)?;
-    print_count(rt, b"different=", count.different)
+    println!(rt; "jobs={jobs}")?;
+    println!(rt; "tried={}", count.tried)?;
+    println!(rt; "different={}", count.different)
 }
 
 fn main(rt: HostRuntime) -> io::Result<()> {

@@ -26,3 +26,4 @@ pub mod Demand3
 pub mod DefaultTables
 pub mod Bounds
 pub mod Ledger
+pub mod Refused

@@ -4,6 +4,8 @@ pub mod Words
 pub mod Placing
 pub mod Withdrawing
 pub mod Refusals
+pub mod Answers
+pub mod Kinds
 pub mod Journal
 pub mod Ledger
 pub mod Examples

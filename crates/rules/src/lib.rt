@@ -1,8 +1,9 @@
 // The data types and limits of the cluster register. The rules themselves are the definitions of specs/, a file for each section of document 01.
 #![tactic(auto)]
 
+pub mod answers;
 pub mod codes;
-pub mod rows;
+mod rows;
 pub mod tables;
 
 // The machines that a table has room for, and their ordered pairs.
@@ -69,7 +70,7 @@ pub enum Holder {
 }
 
 // A row: one booking. Its span holds its start and not its finish. The fields are as narrow as their ranges, since a register goes by value.
-#[derive(Clone, Copy, PartialEq, Eq)]
+#[derive(Clone, Copy, PartialEq, Eq, Default)]
 pub struct Row {
     pub holder: Holder,
     pub job: u16,
@@ -78,15 +79,15 @@ pub struct Row {
     pub cost: u64,
 }
 
-// The kind of a call, with its number or tick. A submission's job stands beside it.
+// A call: a submission of a job, a withdrawal by the job's number, or a clock move to a tick.
 #[derive(Clone, Copy, PartialEq, Eq)]
-pub enum Kind {
-    Submit,
+pub enum Call {
+    Submit(Job),
     Withdraw(u64),
     Advance(u64),
 }
 
-// The answer to a call: number 0 or that of a refusal, the task that a refusal names, and the cost and count of new rows.
+// An answer by its four figures, as document 01 gives it: number 0 or that of a refusal, the task that a refusal names, and the cost and count of new rows.
 #[derive(Clone, Copy, PartialEq, Eq)]
 pub struct Answer {
     pub number: u64,

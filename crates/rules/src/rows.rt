@@ -1,21 +1,16 @@
-// Rows as code makes them.
+// The holder of a row in a slot that is not used. A derive needs a case that holds nothing.
 ghost use Rattle.std.specs.Prelude.{◌≡◌};
-ghost use Rattle.rules.specs.Placing.{no_row};
+ghost use Rattle.rules.specs.declared.Holder.TheVariants.{TaskOn};
 
-use crate::{Holder, Row};
+use crate::Holder;
 
-// What stands in a slot that is not used. No derived default, since a `Holder` has none.
-pub fn blank() -> Row
-    ensures { result ≡ no_row }
-{
-    Row {
-        holder: Holder::TaskOn {
+impl Default for Holder {
+    ghost is_default = { λ h. h ≡ TaskOn 0 0 };
+
+    fn default() -> Self {
+        Holder::TaskOn {
             machine: 0,
             task: 0,
-        },
-        job: 0,
-        start: 0,
-        finish: 0,
-        cost: 0,
+        }
     }
 }

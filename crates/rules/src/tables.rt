@@ -1,5 +1,5 @@
 // The machine tables: the default one, and what code reads of one.
-ghost use Rattle.std.specs.Prelude.{◌≡◌, get_or};
+ghost use Rattle.std.specs.Prelude.{◌≡◌};
 ghost use Rattle.rules.specs.Words.{setup_by_default, rate, link_time, link_rate, link_place};
 ghost use Rattle.rules.specs.Asked.{HasMachine, HasLink};
 
@@ -30,36 +30,36 @@ pub fn default_setup() -> Setup
     }
 }
 
-// The failure rate of a machine.
-pub fn machine_rate(s: Setup, machine: u64) -> u64
-    requires { HasMachine machine }
-    ensures { result ≡ rate s machine }
+// The place of link a to b in the columns of links, which stand row by row, a row for each sending machine.
+fn place_of_link(a: u64, b: u64) -> usize
+    requires { HasLink a b }
+    ensures { result ≡ link_place a b }
 {
-    let at = (machine - 1) as usize;
-    s.table.rates[at]
+    (a as usize - 1) * MACHINES + (b as usize - 1)
 }
 
-// The figure of link a to b in a column of the table, which stands row by row, a row for each sending machine.
-fn link_figure(column: [u64; PAIRS], a: u64, b: u64) -> u64
-    requires { HasLink a b }
-    ensures { result ≡ get_or column (link_place a b) 0 }
-{
-    let at = ((a - 1) as usize) * MACHINES + ((b - 1) as usize);
-    column[at]
-}
+impl Setup {
+    // The failure rate of a machine.
+    pub fn rate(&self, machine: u64) -> u64
+        requires { HasMachine machine }
+        ensures { result ≡ rate self.now machine }
+    {
+        self.table.rates[machine as usize - 1]
+    }
 
-// The time of link a to b per unit of volume.
-pub fn transfer_time(s: Setup, a: u64, b: u64) -> u64
-    requires { HasLink a b }
-    ensures { result ≡ link_time s a b }
-{
-    link_figure(s.table.times, a, b)
-}
+    // The time of link a to b per unit of volume.
+    pub fn link_time(&self, a: u64, b: u64) -> u64
+        requires { HasLink a b }
+        ensures { result ≡ link_time self.now a b }
+    {
+        self.table.times[place_of_link(a, b)]
+    }
 
-// The failure rate of link a to b.
-pub fn transfer_rate(s: Setup, a: u64, b: u64) -> u64
-    requires { HasLink a b }
-    ensures { result ≡ link_rate s a b }
-{
-    link_figure(s.table.fails, a, b)
+    // The failure rate of link a to b.
+    pub fn link_rate(&self, a: u64, b: u64) -> u64
+        requires { HasLink a b }
+        ensures { result ≡ link_rate self.now a b }
+    {
+        self.table.fails[place_of_link(a, b)]
+    }
 }

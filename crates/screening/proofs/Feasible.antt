@@ -1,36 +1,33 @@
--- Laws of refusal 6: the machines of a task one after the other, and the tasks of a job one after the other, for every job that the figures are of.
+-- Laws of refusal 6: the machines of a task one after the other, and the tasks of a job one after the other.
 use mathlib.Core.Path.{◌≡◌, refl, sym, ap, ◌∙◌}
-use mathlib.Core.Bool.{Bool, true, false, not, ◌&&◌, ◌||◌}
+use mathlib.Core.Bool.{Bool, true, false, not, ◌&&◌}
 use mathlib.Core.List.{List, [], ◌∷◌, map, Memᴰ}
 use mathlib.Core.Option.{Option, none, some}
-use Prim.Native.Nat.{ℕ, ◌+◌, ◌≤◌, ◌<◌}
+use Prim.Native.Nat.{ℕ, ◌+◌, ◌-◌, ◌≤◌, ◌<◌}
 use native.Mathlib.Omega.{arith}
-use native.Mathlib.Numerals.{add-one}
 use lib.Dec.{ltb, leb}
-use borrow.Author.Tests.{ltb-false, leb-true, lt-ltb, le-ltb, le-leb, lt-leb}
+use lib.ListN.{get_or, take, length}
+use lib.Seq.{take_all}
+use Rattle.std.proofs.Common.{Some, None}
+use borrow.Author.Tests.{ltb-false, leb-true, lt-ltb, le-ltb, le-leb}
+use Rattle.std.specs.List.{list_any}
 use Rattle.rules.specs.declared.Job.{Job}
 use Rattle.rules.specs.declared.Setup.{Setup}
+use Rattle.rules.specs.declared.Task.{Task}
 use Rattle.rules.specs.Sequences.{any_of, keep, numbers, foremost}
-use Rattle.rules.specs.Words.{largest_time, horizon, machines, task_of, run_time}
-use Rattle.rules.specs.Asked.{named}
+use Rattle.rules.specs.Words.{largest_time, horizon, machines, task_of, run_time, no_task}
 use Rattle.rules.specs.Refusals.{outside, task_out_of_range, out_of_range, infeasible, first_infeasible}
 use Rattle.rules.proofs.Sequences.{by_test, by_less, clash, or_false, and_true, and_both, any_none, any_witness, keep_none, keep_mem, mem_keep}
 use Rattle.rules.proofs.Sequences.{mem_numbers, numbers_mem}
 use Rattle.rules.proofs.Choice.{precedes_false, foremost_mem, foremost_first, foremost_empty}
-use Rattle.figures.specs.Rows.{DeadlineIs, RunIs}
-use Rattle.figures.specs.declared.jobs.Layout.{Layout}
-use Rattle.screening.specs.Screens.{WithJob, AskOneTask, AskInfeasible, InfeasibleIs, FirstIs}
-use Rattle.screening.proofs.Ranged.{at_task, NoneOf, none_more, none_of_all, some_found}
+use Rattle.screening.specs.Screens.{Lists, AskInfeasible, InfeasibleIs, AskInfeasibles, FirstIs}
+use Rattle.screening.proofs.Listed.{any_listed, numbered, any_numbered, all_there, own_task, first_tasks, setup_with, alone}
 
 -- The least non-zero run time decides for all of them.
 
 -- a run that can be had ends by the deadline, started at the clock
-abbrev ends : (clock deadline : ℕ) → ℕ → Bool
+abbrev pub ends : (clock deadline : ℕ) → ℕ → Bool
 ends clock deadline run = ltb 0 run && leb (clock + run) deadline
-
-any_mapped : {A B : Type 0} (p : B → Bool) (f : A → B) (l : List A) → any_of p (map f l) ≡ any_of (λ x. p (f x)) l
-any_mapped p f [] = refl
-any_mapped p f (x ∷ l) = ap (λ b. p (f x) || b) (any_mapped p f l)
 
 module _ (clock deadline : ℕ) (runs : List ℕ) where
   -- what the least says
@@ -69,81 +66,18 @@ module _ (clock deadline : ℕ) (runs : List ℕ) where
       (λ e. one_ends e _ refl ∙ sym (ap not e))
       (λ e. none_ends e _ refl ∙ sym (ap not e))
 
--- The machines of a task, one after the other.
+-- The machines of a task.
 
--- the machine with this number, started at the clock, ends the task at the index t in time
-abbrev pub in_time : (clock t : ℕ) → Setup → Job → ℕ → Bool
-in_time clock t s j m = ends clock (task_of j (t + 1)).deadline (run_time j (t + 1) m)
-
-infeasible_is : (s : Setup) (clock : ℕ) (j : Job) (t : ℕ) → infeasible s clock j (t + 1) ≡ not (any_of (in_time clock t s j) (machines s))
+-- a task is feasible if one of the machines ends in time
+pub unless_ends :
+    {task : Task} {count : ℕ} (clock : ℕ) (b : Bool) → count ≤ length task.runs →
+    list_any (ends clock task.deadline) (take count task.runs) ≡ b → InfeasibleIs task count clock (not b)
 unfolding infeasible
-infeasible_is s clock j t =
-    late_unless clock (task_of j (t + 1)).deadline (map (run_time j (t + 1)) (machines s))
-    ∙ ap not (any_mapped (ends clock (task_of j (t + 1)).deadline) (run_time j (t + 1)) (machines s))
-
--- a run time is in range, since test 3 passes the job
-run_at_most :
-    (s : Setup) (j : Job) (t m : ℕ) → out_of_range s j ≡ false → t < j.taskcount → m < s.table.machines → run_time j (t + 1) (m + 1) ≤ largest_time
-unfolding out_of_range task_out_of_range
-run_at_most s j t m e listed more =
-    let tasks = (or_false (ltb largest_time j.scheduling) _ e).1 in
-    let task = any_none (task_out_of_range s j) tasks (numbers_mem 1 j.taskcount (t + 1) (omega arith) (omega arith)) in
-    let times = (or_false (outside 1 horizon (task_of j (t + 1)).deadline) _ task).1 in
-    let runs = (or_false (ltb largest_time (task_of j (t + 1)).dispatch) _ times).1 in
-    let own = numbers_mem 1 s.table.machines (m + 1) (omega arith) (omega arith) in
-    ltb-false largest_time (run_time j (t + 1) (m + 1)) (any_none (λ k. ltb largest_time (run_time j (t + 1) k)) runs own)
-
-module _ {row : List ℕ} {layout : Layout} {t clock : ℕ} (ask : AskInfeasible row layout t clock) where
-  pub task_listed : AskOneTask row layout t
-  task_listed =
-      let laid = ask.ask.laid in
-      record { some = record { job = ask.ask.job; laid = rw (← laid.machines_are) at laid }; listed = ask.listed }
-
-  -- clock and run time together are no more than this
-  pub run_within : {m run : ℕ} → m < layout.machines → RunIs row layout.machines t m run → clock + run ≤ horizon + largest_time
-  run_within {m} more known =
-      let asked = ask.ask in
-      let laid = asked.laid in
-      let here : t < asked.job.taskcount = omega (arith, ask.listed, laid.tasks_are) in
-      let few : m < asked.setup.table.machines = omega (arith, laid.machines_are) in
-      omega (
-        arith,
-        asked.clock_at_most,
-        at_task task_listed known asked.setup asked.job laid,
-        run_at_most asked.setup asked.job t m asked.in_range here few,
-      )
-
-  module _ {m : ℕ} (sofar : NoneOf row layout (in_time clock t) layout.machines m) where
-    -- no machine ends in time
-    pub all_late : layout.machines ≤ m → InfeasibleIs row layout t clock true
-    all_late all s j laid =
-        let none : any_of (in_time clock t s j) (machines s) ≡ false = rw laid.machines_are at (none_of_all sofar all s j laid) in
-        sym (infeasible_is s clock j t ∙ ap not none)
-
-    module _ {run : ℕ} (more : m < layout.machines) (known : RunIs row layout.machines t m run) where
-      pub next_unable : run ≡ 0 → NoneOf row layout (in_time clock t) layout.machines (m + 1)
-      next_unable e = none_more sofar more (λ s j laid. rw (← at_task task_listed known s j laid, e) refl)
-
-      module _ {deadline : ℕ} (deadline_is : DeadlineIs row layout.machines t deadline) (able : run ≡ 0 → ⊥) where
-        tested : {b : Bool} → leb (clock + run) deadline ≡ b → WithJob row layout (λ s j. in_time clock t s j (m + 1) ≡ b)
-        tested e s j laid =
-            rw (
-              ← at_task task_listed known s j laid,
-              ← at_task task_listed deadline_is s j laid,
-              lt-ltb 0 run (omega (arith, able)),
-              e,
-            )
-            refl
-
-        pub next_late : deadline < clock + run → NoneOf row layout (in_time clock t) layout.machines (m + 1)
-        next_late h = none_more sofar more (tested (lt-leb (clock + run) deadline h))
-
-        -- one machine that ends in time is enough
-        pub next_ends : clock + run ≤ deadline → InfeasibleIs row layout t clock false
-        next_ends h s j laid =
-            let found : any_of (in_time clock t s j) (machines s) ≡ true
-            = rw laid.machines_are at (some_found sofar more (tested (le-leb (clock + run) deadline h)) s j laid) in
-            sym (infeasible_is s clock j t ∙ ap not found)
+unless_ends {task} {count} clock b long e s j t same is =
+    let own : Task = task_of j t in
+    let listed : map (run_time j t) (machines s) ≡ take count task.runs
+    = ap (λ k. map (run_time j t) (numbers 1 k)) same ∙ ap (λ o. map (λ m. get_or o.runs (m - 1) 0) (numbers 1 count)) is ∙ numbered 0 task.runs count long in
+    sym (late_unless clock own.deadline (map (run_time j t) (machines s)) ∙ rw (listed, is, any_listed, e) refl)
 
 -- The tasks of a job, one after the other.
 
@@ -177,19 +111,58 @@ module _ (p : ℕ → Bool) (n : ℕ) where
           let same : t + 1 ≡ u = omega arith in
           ap some same
 
-module _ {row : List ℕ} {layout : Layout} (clock : ℕ) {t : ℕ} (sofar : NoneOf row layout (λ s. infeasible s clock) layout.tasks t) where
-  pub none_found : layout.tasks ≤ t → FirstIs row layout clock 0
+-- the test of refusal 6, of a task
+abbrev pub hopeless : (machines clock : ℕ) → Task → Bool
+hopeless machines clock task = infeasible (setup_with machines) clock (alone task) 1
+
+-- a run time is in range, since test 3 passes the job
+run_at_most :
+    (s : Setup) (j : Job) (t m : ℕ) → out_of_range s j ≡ false → t < j.taskcount → m < s.table.machines → run_time j (t + 1) (m + 1) ≤ largest_time
+unfolding out_of_range task_out_of_range
+run_at_most s j t m e listed more =
+    let tasks = (or_false (ltb largest_time j.scheduling) _ e).1 in
+    let task = any_none (task_out_of_range s j) tasks (numbers_mem 1 j.taskcount (t + 1) (omega arith) (omega arith)) in
+    let times = (or_false (outside 1 horizon (task_of j (t + 1)).deadline) _ task).1 in
+    let runs = (or_false (ltb largest_time (task_of j (t + 1)).dispatch) _ times).1 in
+    let own = numbers_mem 1 s.table.machines (m + 1) (omega arith) (omega arith) in
+    ltb-false largest_time (run_time j (t + 1) (m + 1)) (any_none (λ k. ltb largest_time (run_time j (t + 1) k)) runs own)
+
+module _ {j : Job} {l : List Task} (tasks : Lists j l) {machines : ℕ} (clock : ℕ) where
+  pub task_asked : AskInfeasibles j machines clock → (i : ℕ) → i < length l → AskInfeasible (get_or l i no_task) machines clock
+  task_asked ask i more = record {
+    machines_at_most = ask.machines_at_most;
+    runs_at_most = λ m few.
+        let one_on : m + 1 - 1 ≡ m = omega arith in
+        let listed : i < j.taskcount = omega (arith, tasks.long) in
+        let run = run_at_most ask.setup j i m ask.in_range.figures listed (omega (arith, ask.machines_are)) in
+        rw (own_task tasks i more) (rw one_on at run);
+    clock_at_most = ask.clock_at_most;
+  }
+
+  passed_by_number :
+      (s : Setup) (i : ℕ) → s.table.machines ≡ machines → i ≤ length l → list_any (hopeless machines clock) (take i l) ≡ false →
+      any_of (infeasible s clock j) (numbers 1 i) ≡ false
+  unfolding infeasible
+  passed_by_number s i same within passed =
+      let few : i ≤ length j.tasks = omega (arith, all_there tasks, tasks.long) in
+      rw (same, any_numbered no_task (hopeless machines clock) j.tasks i few, ← first_tasks tasks i within) passed
+
+  pub none_found : list_any (hopeless machines clock) l ≡ false → FirstIs j machines clock None
   unfolding first_infeasible
-  none_found all s j laid = lowest_none (infeasible s clock j) j.taskcount (rw laid.tasks_are at (none_of_all sofar all s j laid))
+  none_found e s same =
+      let whole = take_all j.taskcount l (omega (arith, tasks.long)) in
+      lowest_none (infeasible s clock j) j.taskcount (passed_by_number s j.taskcount same (omega (arith, tasks.long)) (rw whole e))
 
-  module _ {r : Bool} (more : t < layout.tasks) (known : InfeasibleIs row layout t clock r) where
-    pub task_feasible : r ≡ false → NoneOf row layout (λ s. infeasible s clock) layout.tasks (t + 1)
-    task_feasible e = none_more sofar more (λ s j laid. sym (known s j laid) ∙ e)
-
-    -- the first found is the lowest, since those passed are feasible
-    pub first_found : r ≡ true → FirstIs row layout clock (t + 1)
-    unfolding first_infeasible
-    first_found e s j laid =
-        let named_more : named (t + 1) ≡ some (t + 1) = rw add-one refl in
-        let here : t < j.taskcount = omega (arith, laid.tasks_are) in
-        named_more ∙ lowest_found (infeasible s clock j) j.taskcount t (sofar.none s j laid) here (sym (known s j laid) ∙ e)
+  -- the first found is the lowest, since those passed are feasible
+  pub first_found :
+      {r : Bool} (i : ℕ) → i < length l → list_any (hopeless machines clock) (take i l) ≡ false → InfeasibleIs (get_or l i no_task) machines clock r →
+      r ≡ true → FirstIs j machines clock (Some (i + 1))
+  unfolding first_infeasible
+  first_found i more passed known e s same =
+      lowest_found
+      (infeasible s clock j)
+      j.taskcount
+      i
+      (passed_by_number s i same (omega arith) passed)
+      (omega (arith, tasks.long))
+      (sym (known s j (i + 1) same (sym (own_task tasks i more))) ∙ e)

@@ -1,4 +1,5 @@
 -- Laws that the functions' proofs cite.
+pub mod Listed
 pub mod Ranged
 pub mod Ascending
 pub mod Feasible

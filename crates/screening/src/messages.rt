@@ -1,30 +1,24 @@
 // Refusal 4: messages out of range or out of order.
-ghost use Rattle.std.specs.Prelude.{◌≡◌};
+ghost use Rattle.std.specs.Prelude.{◌≡◌, ◌≤◌};
+ghost use Rattle.rules.specs.Words.{most_messages};
 ghost use Rattle.rules.specs.Sequences.{precedes};
-ghost use Rattle.rules.specs.Refusals.{message_order};
-ghost use Rattle.screening.specs.Screens.{SomeLayout, MessageOutsideIs, BadMessagesIs};
+ghost use Rattle.rules.specs.Refusals.{message_order, bad_messages as bad_messages_of};
+ghost use Rattle.screening.specs.Screens.{MessageOutsideIs};
 
-use figures::jobs::{Layout, receiver_of, sender_of, volume_of};
-use rules::Message;
-use texts::job::FIGURES;
+use rules::{Job, Message};
 
 // The largest volume.
 const LARGEST: u64 = 1_000;
 
 // An end that is no task of a job with so many, a sender not below its receiver, or too large a volume.
-fn message_outside(tasks: u64, msg: Message) -> bool
-    ensures { MessageOutsideIs tasks msg result }
+#[tactic(auto, unfolding(rules::specs::Refusals::message_out_of_range))]
+fn message_outside(tasks: u64, msg: &Message) -> bool
+    ensures { MessageOutsideIs tasks msg.now result }
 {
-    if msg.sender < 1 {
+    if msg.sender < 1 || tasks < msg.sender {
         return true;
     }
-    if tasks < msg.sender {
-        return true;
-    }
-    if msg.receiver < 1 {
-        return true;
-    }
-    if tasks < msg.receiver {
+    if msg.receiver < 1 || tasks < msg.receiver {
         return true;
     }
     if msg.receiver <= msg.sender {
@@ -34,43 +28,28 @@ fn message_outside(tasks: u64, msg: Message) -> bool
 }
 
 // One message stands before another: by receiver, then by sender.
-fn stands_before(a: Message, b: Message) -> bool
-    ensures { result ≡ precedes (message_order a) (message_order b) }
+#[tactic(auto, unfolding(rules::specs::Sequences::precedes))]
+fn stands_before(a: &Message, b: &Message) -> bool
+    ensures { result ≡ precedes (message_order a.now) (message_order b.now) }
 {
-    if a.receiver < b.receiver {
-        return true;
-    }
-    if b.receiver < a.receiver {
-        return false;
-    }
-    a.sender < b.sender
+    a.receiver < b.receiver || (a.receiver == b.receiver && a.sender < b.sender)
 }
 
-pub fn bad_messages(row: &[u64; FIGURES], layout: Layout) -> bool
-    requires { SomeLayout row.now layout }
-    ensures { BadMessagesIs row.now layout result }
+pub fn bad_messages(job: &Job) -> bool
+    requires { job.now.messagecount ≤ most_messages }
+    ensures { result ≡ bad_messages_of job.now }
 {
     // No task has the number 0: this stands before every message in range.
-    let mut last = Message {
+    let mut last = &Message {
         sender: 0,
         receiver: 0,
         volume: 0,
     };
-    let mut i: usize = 0;
-    while i < layout.messages {
-        let msg = Message {
-            sender: sender_of(row, layout.at, i),
-            receiver: receiver_of(row, layout.at, i),
-            volume: volume_of(row, layout.at, i),
-        };
-        if message_outside(layout.tasks as u64, msg) {
-            return true;
-        }
-        if !stands_before(last, msg) {
+    for msg in &job.messages[..job.messagecount as usize] {
+        if message_outside(job.taskcount, msg) || !stands_before(last, msg) {
             return true;
         }
         last = msg;
-        i += 1;
     }
     false
 }

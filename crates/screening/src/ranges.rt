@@ -1,12 +1,10 @@
-// Refusals 1 and 3: a number or a figure out of range.
-ghost use Rattle.std.specs.Prelude.{◌≡◌};
-ghost use Rattle.rules.specs.Words.{largest_number};
-ghost use Rattle.rules.specs.Refusals.{outside};
-ghost use Rattle.screening.specs.Screens.{SomeLayout, AskOneTask, TaskOutsideIs, OutOfRangeIs};
+// Refusals 1 to 3: a number, a count or a figure out of range.
+ghost use Rattle.std.specs.Prelude.{◌≡◌, ◌≤◌};
+ghost use Rattle.rules.specs.Words.{largest_number, most_machines, most_tasks};
+ghost use Rattle.rules.specs.Refusals.{outside, miscounted as miscounted_of};
+ghost use Rattle.screening.specs.Screens.{TaskOutsideIs, Lists, AskFigures, OutOfRangeIs};
 
-use figures::jobs::{Layout, deadline_of, dispatch_of, run_of, scheduling_of};
-use rules::{HORIZON, LAST_JOB};
-use texts::job::FIGURES;
+use rules::{HORIZON, Job, LAST_JOB, MESSAGES, TASKS, Task};
 
 // The largest scheduling, dispatch or run time.
 const LONGEST: u64 = 1_000_000;
@@ -20,44 +18,44 @@ pub fn number_outside(number: u64) -> bool
     LAST_JOB < number
 }
 
-// A deadline, a dispatch time or a run time of the task at an index is out of range.
-fn task_outside(row: &[u64; FIGURES], layout: Layout, t: usize) -> bool
-    requires { AskOneTask row.now layout t }
-    ensures { TaskOutsideIs row.now layout t result }
+#[tactic(auto, unfolding(rules::specs::Refusals::miscounted))]
+pub fn miscounted(job: &Job) -> bool
+    ensures { result ≡ miscounted_of job.now }
 {
-    let deadline = deadline_of(row, layout.machines, t);
+    job.taskcount < 1 || (TASKS as u64) < job.taskcount || (MESSAGES as u64) < job.messagecount
+}
+
+// The tasks that a job lists: array entries past the count are no part of it.
+pub fn tasks_of(job: &Job) -> &[Task]
+    requires { job.now.taskcount ≤ most_tasks }
+    ensures { Lists job.now result.now }
+{
+    &job.tasks[..job.taskcount as usize]
+}
+
+// A deadline, a dispatch time or a run time of the task is out of range.
+#[tactic(auto, unfolding(rules::specs::Refusals::task_out_of_range))]
+fn task_outside(task: &Task, machines: usize) -> bool
+    requires { machines ≤ most_machines }
+    ensures { TaskOutsideIs machines task.now result }
+{
+    let deadline = task.deadline;
     if deadline < 1 {
         return true;
     }
     if HORIZON < deadline {
         return true;
     }
-    if LONGEST < dispatch_of(row, layout.machines, t) {
-        return true;
-    }
-    let mut m: usize = 0;
-    while m < layout.machines {
-        if LONGEST < run_of(row, layout.machines, t, m) {
-            return true;
-        }
-        m += 1;
-    }
-    false
+    LONGEST < task.dispatch || task.runs[..machines].iter().any(|run| LONGEST < *run)
 }
 
-pub fn out_of_range(row: &[u64; FIGURES], layout: Layout) -> bool
-    requires { SomeLayout row.now layout }
-    ensures { OutOfRangeIs row.now layout result }
+#[tactic(auto, unfolding(rules::specs::Refusals::out_of_range))]
+pub fn out_of_range(job: &Job, machines: usize) -> bool
+    requires { AskFigures machines job.now }
+    ensures { OutOfRangeIs machines job.now result }
 {
-    if LONGEST < scheduling_of(row) {
-        return true;
-    }
-    let mut t: usize = 0;
-    while t < layout.tasks {
-        if task_outside(row, layout, t) {
-            return true;
-        }
-        t += 1;
-    }
-    false
+    LONGEST < job.scheduling
+        || tasks_of(job)
+            .iter()
+            .any(|task| task_outside(task, machines))
 }

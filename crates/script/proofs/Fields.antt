@@ -57,8 +57,3 @@ module _ {old : List ℕ} {at : ℕ} where
   -- what a caller learns
   pub at_most : {bytes new : List ℕ} {next most : ℕ} → PutWithin old at bytes new next most → PutsAtMost old at bytes new next most
   at_most w = record { puts = w.puts; short = w.short }
-
-  -- there is room for so many bytes more
-  pub within_room :
-      {bytes new : List ℕ} {next most : ℕ} (size : ℕ) → at + (most + size) ≤ length old → PutWithin old at bytes new next most → next + size ≤ length new
-  within_room size h w = let n = within_next w in let g = w.long in omega arith

@@ -1,5 +1,4 @@
 -- Laws that the functions' proofs cite.
-pub mod Calling
 pub mod Acted
 pub mod Fields
 pub mod TimelineOrder

@@ -6,9 +6,10 @@ use mathlib.Core.Option.{Option, none, some}
 use Prim.Native.Nat.{ℕ, zero, suc, ◌+◌, ◌-◌, ◌*◌, ◌≤◌, ◌<◌}
 use native.Mathlib.Nat.{zero-add}
 use native.Mathlib.Omega.{arith}
-use lib.ListN.{length, take, drop, replicate, length-drop, length-append}
+use lib.ListN.{length, take, drop, length-drop, length-append}
 use lib.Seq.{take_at, drop_at}
 use borrow.Author.Tests.{lt-ltb, le-ltb}
+use Rattle.std.proofs.Common.{Result}
 use Rattle.rules.specs.declared.Answer.{Answer}
 use Rattle.rules.specs.declared.Setup.{Setup}
 use Rattle.rules.specs.Words.{State, fresh, setup_by_default}
@@ -19,20 +20,17 @@ use Rattle.lines.specs.Put.{Puts}
 use Rattle.lines.proofs.Put.{puts_then}
 use Rattle.texts.specs.JobText.{job_text}
 use Rattle.texts.specs.Reader.{default_machines}
-use Rattle.texts.specs.Rows.{most_figures}
 use Rattle.texts.proofs.Reached.{Reached, least_line, line_reached, least_job, job_reached}
-use Rattle.figures.specs.Tables.{TableOf}
-use Rattle.timeline.specs.RowLine.{spans_room, note_size}
-use Rattle.placement.specs.Own.{owned}
-use Rattle.timetable.specs.declared.Status.{Status}
-use Rattle.timetable.specs.declared.Outcome.{Outcome}
-use Rattle.rules.specs.declared.Kind.{Kind}
-use Rattle.rules.specs.declared.Kind.TheVariants.{Submit, Withdraw, Advance}
-use Rattle.timetable.specs.Derived.{never}
-use Rattle.timetable.specs.Timetables.{TimetableOf, AskTimetable, Goes}
-use Rattle.script.specs.Called.{AsksFor}
-use Rattle.script.specs.Called.{Calling}
-use Rattle.script.specs.declared.acts.ActRead.TheVariants.{Called}
+use Rattle.timetable.specs.declared.Timetable.{Timetable}
+use Rattle.rules.specs.declared.Job.{Job}
+use Rattle.rules.specs.declared.answers.Admission.{Admission}
+use Rattle.rules.specs.declared.answers.Refusal.{Refusal}
+use Rattle.rules.specs.Answers.{answered}
+use Rattle.timetable.specs.Timetables.{TimetableOf, Goes, timetable_fresh}
+use Rattle.script.specs.declared.acts.Kind.{Kind}
+use Rattle.script.specs.declared.acts.Kind.TheVariants.{Submit, Withdraw, Advance}
+use Rattle.script.specs.declared.acts.Stop.{Stop}
+use Rattle.script.specs.Kinds.{call_of}
 use Rattle.script.specs.Keys.{job_key, tick_key}
 use Rattle.script.specs.Acts.{Act, input_ends, call, unread, as_act, number_act, act, submit_line, withdraw_line, clock_line}
 use Rattle.script.specs.Replies.{reply, stop_line}
@@ -40,11 +38,11 @@ use Rattle.script.specs.Listing.{listing}
 use Rattle.script.specs.Program.{Script, script_from, script, replies, printed, program, input_limit}
 use Rattle.script.specs.Laws.{TurnsEnough}
 use Rattle.script.specs.Contract.{output_size, Runs}
-use Rattle.script.specs.Parts.{ActSays, most_answer, most_reply, most_for, reply_to, PutsReply, most_stop, most_listing, PutsListing, PutsRefusal}
+use Rattle.script.specs.Parts.{stop_number, most_answer, most_reply, most_for, reply_to, PutsReply, PutsListing, PutsRefusal}
 use Rattle.script.specs.Parts.{too_long_output, AskCalls}
-use Rattle.script.proofs.Fields.{PutWithin, within_none, within_then, within_next}
+use Rattle.script.proofs.Fields.{PutWithin, within_none, within_then}
 use Rattle.script.proofs.Acted.{at_end, at_submit, at_withdraw, at_clock, no_act, act_fits}
-use Rattle.script.proofs.Held.{fresh_timetable}
+use Rattle.script.proofs.Held.{fresh_stands}
 
 -- the most bytes of the reply to a call
 abbrev most_said : Call → ℕ
@@ -190,27 +188,24 @@ module _ (s : Setup) (st : State) where
   unfolding printed replies answers after
   printed_stop stop = refl
 
--- A kind of call has the replies of the call that it asks for.
-module _ (row : List ℕ) where
-  said_most : (kind : Kind) (c : Call) → AsksFor default_machines row kind c → most_for kind ≡ most_said c
-  said_most Submit c asks = sym (ap most_said asks.1)
-  said_most (Withdraw number) c asks = sym (ap most_said asks)
-  said_most (Advance tick) c asks = sym (ap most_said asks)
+-- A call of the code has the replies of the one that it is of the rules.
 
-  said_reply : (kind : Kind) (c : Call) → AsksFor default_machines row kind c → (a : Answer) → reply_to kind a ≡ reply c a
-  unfolding reply
-  said_reply Submit c asks a = sym (ap (λ x. reply x a) asks.1)
-  said_reply (Withdraw number) c asks a = sym (ap (λ x. reply x a) asks)
-  said_reply (Advance tick) c asks a = sym (ap (λ x. reply x a) asks)
+said_most : (kind : Kind) (j : Job) → most_for kind ≡ most_said (call_of kind j)
+said_most Submit j = refl
+said_most (Withdraw number) j = refl
+said_most (Advance tick) j = refl
 
--- The loop: so many bytes are read, their answers are written, and the columns stand for the state that they leave.
-pub record Running
-    (text old row own begins ends jobs notes : List ℕ) (status : Status) (at : ℕ) (new : List ℕ) (end : ℕ) : Type 0 where
+said_reply : (kind : Kind) (j : Job) (a : Answer) → reply_to kind a ≡ reply (call_of kind j) a
+unfolding reply
+said_reply Submit j a = refl
+said_reply (Withdraw number) j a = refl
+said_reply (Advance tick) j a = refl
+
+-- The loop: so many bytes are read, their answers are written, and the timetable stands for the state that they leave.
+pub record Running (text old : List ℕ) (t : Timetable) (at : ℕ) (new : List ℕ) (end : ℕ) : Type 0 where
   pub asked : AskCalls text old
-  pub row_long : length row ≡ most_figures
-  pub own_long : length own ≡ owned
   pub state : State
-  pub timetable : TimetableOf setup_by_default state begins ends jobs notes status
+  pub timetable : TimetableOf setup_by_default state t
   pub bytes : List ℕ
   pub within : PutWithin old 0 bytes new end (2 * at)
   pub to_come : program setup_by_default text ≡ bytes ++ printed setup_by_default state (script_from default_machines (length text - at) text at)
@@ -227,138 +222,111 @@ whole :
     Puts new end tail new' last → Puts old 0 all new' last
 whole {old = old} {new' = new'} {last} w is p = subst (λ b. Puts old 0 b new' last) (sym is) (puts_then (omega arith) w.puts p)
 
-pub running_none :
-    {text old row own : List ℕ} {status : Status} → AskCalls text old → length row ≡ most_figures → length own ≡ owned →
-    status ≡ record { clock = 0; count = 0; total = 0; soonest = never } →
-    Running text old row own (replicate spans_room 0) (replicate spans_room 0) (replicate spans_room 0) (replicate (spans_room * note_size) 0) status 0 old 0
+pub running_none : {text old : List ℕ} {t : Timetable} → AskCalls text old → t ≡ timetable_fresh → Running text old t 0 old 0
 unfolding program
-running_none {text} asked row_long own_long is =
+running_none {text} asked is =
     let off : length text - 0 ≡ length text = omega arith in
     record {
       asked = asked;
-      row_long = row_long;
-      own_long = own_long;
       state = fresh;
-      timetable = fresh_timetable is;
+      timetable = fresh_stands is;
       bytes = [];
       within = within_none (omega arith);
       to_come = rw (within_limit text asked.few, off) refl;
       inside = omega arith;
     }
 
-module _
-    {text old row own begins ends jobs notes : List ℕ} {status : Status} {at : ℕ} {new : List ℕ} {end : ℕ}
-    (w : Running text old row own begins ends jobs notes status at new end)
-  where
-    -- there is room for a reading refusal and the listing
-    pub ending_room : end + (most_stop + most_listing) ≤ length new
-    ending_room = omega (arith, within_next w.within, w.within.long, w.inside, w.asked.few, w.asked.room)
+module _ {text old : List ℕ} {t : Timetable} {at : ℕ} {new : List ℕ} {end : ℕ} (w : Running text old t at new end) where
+  -- the ordinary end
+  pub running_ends :
+      {new' : List ℕ} {last : ℕ} → length text ≤ at → PutsListing new end t new' last →
+      Puts old 0 (program setup_by_default text) new' last
+  running_ends over p =
+      let all : program setup_by_default text ≡ w.bytes ++ listing w.state =
+      w.to_come
+      ∙ ap (λ x. w.bytes ++ printed setup_by_default w.state x) (ended_there default_machines text at (length text - at) over)
+      ∙ ap (λ x. w.bytes ++ x) (printed_stop setup_by_default w.state none ∙ ap (λ l. l ++ listing w.state) stop_none)
+      in
+      whole w.within all (p setup_by_default w.state w.timetable)
 
-    pub running_asked : AskTimetable begins ends jobs notes status
-    running_asked = record { setup = setup_by_default; state = w.state; is = w.timetable }
+  module _ (more : at < length text) where
+    left_over : length text - at ≡ suc (length text - suc at)
+    left_over = omega arith
 
-    -- the ordinary end
-    pub running_ends :
-        {new' : List ℕ} {last : ℕ} → length text ≤ at → PutsListing new end begins ends jobs notes status new' last →
-        Puts old 0 (program setup_by_default text) new' last
-    running_ends over p =
-        let all : program setup_by_default text ≡ w.bytes ++ listing w.state =
+    -- a reading refusal
+    pub running_stops :
+        (why : Stop) {new' : List ℕ} {last : ℕ} → act default_machines text at ≡ unread (stop_number why) →
+        PutsRefusal new end why t new' last → Puts old 0 (program setup_by_default text) new' last
+    running_stops why e p =
+        let said = stop_number why in
+        let stop : script_from default_machines (length text - at) text at ≡ record { calls = []; stop = some said } =
+        ap (λ n. script_from default_machines n text at) left_over
+        ∙ script_unread default_machines text at (length text - suc at) said e
+        in
+        let all : program setup_by_default text ≡ w.bytes ++ (stop_line (some said) ++ listing w.state) =
         w.to_come
-        ∙ ap (λ x. w.bytes ++ printed setup_by_default w.state x) (ended_there default_machines text at (length text - at) over)
-        ∙ ap (λ x. w.bytes ++ x) (printed_stop setup_by_default w.state none ∙ ap (λ l. l ++ listing w.state) stop_none)
+        ∙ ap (λ x. w.bytes ++ printed setup_by_default w.state x) stop
+        ∙ ap (λ x. w.bytes ++ x) (printed_stop setup_by_default w.state (some said))
         in
         whole w.within all (p setup_by_default w.state w.timetable)
 
-    module _ (more : at < length text) where
-      left_over : length text - at ≡ suc (length text - suc at)
-      left_over = omega arith
+    -- a call of any kind
+    module _ (kind : Kind) (j : Job) (next : ℕ) (says : act default_machines text at ≡ call (call_of kind j) next) where
+      abbrev c : Call
+      c = call_of kind j
 
-      -- there is room for a reply
-      pub running_room : end + most_reply ≤ length new
-      running_room = omega (arith, within_next w.within, w.within.long, w.asked.few, w.asked.room)
+      reach : Reaches text at c next
+      reach = act_reaches default_machines text at c next says
 
-      -- a reading refusal
-      pub running_stops :
-          {number said : ℕ} {new' : List ℕ} {last : ℕ} → act default_machines text at ≡ unread number → said ≡ number →
-          PutsRefusal new end said begins ends jobs notes status new' last → Puts old 0 (program setup_by_default text) new' last
-      running_stops {number} {said} e same p =
-          let stop : script_from default_machines (length text - at) text at ≡ record { calls = []; stop = some said } =
+      -- fewer bytes are left
+      pub running_less : length text - next < length text - at
+      running_less = omega (arith, reach.on, reach.within)
+
+      pub running_called :
+          {t' : Timetable} {r : Result Admission Refusal} {a : Answer} {new' : List ℕ} {last : ℕ} → Goes setup_by_default w.state c t' r →
+          a ≡ answered r → PutsReply new end kind a new' last → Running text old t' next new' last
+      running_called {a = a} goes a_is p =
+          let st = w.state in
+          let left = (step setup_by_default st c).left in
+          let rest = script_from default_machines (length text - next) text next in
+          let said = reply_to kind a in
+          let turned : script_from default_machines (length text - at) text at ≡ with_call c rest =
           ap (λ n. script_from default_machines n text at) left_over
-          ∙ script_unread default_machines text at (length text - suc at) said (e ∙ ap unread (sym same))
+          ∙ script_call default_machines text at (length text - suc at) c next says
+          ∙ ap
+          (with_call c)
+          (enough_turns default_machines text next (length text - suc at) (length text - next) (omega (arith, reach.on)) (omega (arith, reach.within)))
           in
-          let all : program setup_by_default text ≡ w.bytes ++ (stop_line (some said) ++ listing w.state) =
-          w.to_come
-          ∙ ap (λ x. w.bytes ++ printed setup_by_default w.state x) stop
-          ∙ ap (λ x. w.bytes ++ x) (printed_stop setup_by_default w.state (some said))
+          let same : reply c (step setup_by_default st c).answer ≡ said =
+          ap (reply c) (sym goes.answer_is ∙ sym a_is) ∙ sym (said_reply kind j a)
           in
-          whole w.within all (p setup_by_default w.state w.timetable)
-
-      -- a call of any kind
-      module _ (row' : List ℕ) (next : ℕ) (kind : Kind) (says : ActSays (act default_machines text at) row' (Called next kind)) where
-        abbrev c : Call
-        c = says.0
-
-        reach : Reaches text at c next
-        reach = act_reaches default_machines text at c next says.1
-
-        -- fewer bytes are left
-        pub running_less : length text - next < length text - at
-        running_less = omega (arith, reach.on, reach.within)
-
-        pub running_calls :
-            {table : List ℕ} → TableOf setup_by_default table →
-            Calling setup_by_default w.state c table row' begins ends jobs notes record { kind = kind; status = status }
-        unfolding setup_by_default
-        running_calls table_is = record { table_is = table_is; asks = says.2; timetable = w.timetable }
-
-        pub running_called :
-            {own' begins' ends' jobs' notes' : List ℕ} {outcome : Outcome} {new' : List ℕ} {last : ℕ} → length row' ≡ most_figures → length own' ≡ owned →
-            Goes setup_by_default w.state c begins' ends' jobs' notes' outcome → PutsReply new end kind outcome.answer new' last →
-            Running text old row' own' begins' ends' jobs' notes' outcome.status next new' last
-        running_called {outcome = outcome} {new'} {last} row_long own_long goes p =
-            let st = w.state in
-            let left = (step setup_by_default st c).left in
-            let rest = script_from default_machines (length text - next) text next in
-            let said = reply_to kind outcome.answer in
-            let turned : script_from default_machines (length text - at) text at ≡ with_call c rest =
-            ap (λ n. script_from default_machines n text at) left_over
-            ∙ script_call default_machines text at (length text - suc at) c next says.1
-            ∙ ap
-            (with_call c)
-            (enough_turns default_machines text next (length text - suc at) (length text - next) (omega (arith, reach.on)) (omega (arith, reach.within)))
-            in
-            let same : reply c (step setup_by_default st c).answer ≡ said =
-            ap (reply c) (sym goes.answer_is) ∙ sym (said_reply row' kind c says.2 outcome.answer)
-            in
-            let written =
-            within_then
-            said
-            (most_for kind)
-            (omega (arith, said_most row' kind c says.2, reach.enough, reach.within, w.asked.few, w.asked.room))
-            w.within
-            p.puts
-            p.short
-            in
-            record {
-              asked = w.asked;
-              row_long = row_long;
-              own_long = own_long;
-              state = left;
-              timetable = goes.left;
-              bytes = w.bytes ++ said;
-              within = record {
-                puts = written.puts;
-                short = omega (arith, written.short, said_most row' kind c says.2, reach.enough);
-                long = written.long;
-              };
-              to_come =
-                  w.to_come
-                  ∙ ap (λ x. w.bytes ++ printed setup_by_default st x) turned
-                  ∙ ap (λ x. w.bytes ++ x) (printed_call setup_by_default st c rest)
-                  ∙ ap (λ x. w.bytes ++ (x ++ printed setup_by_default left rest)) same
-                  ∙ sym (append_assoc w.bytes said (printed setup_by_default left rest));
-              inside = reach.within;
-            }
+          let written =
+          within_then
+          said
+          (most_for kind)
+          (omega (arith, said_most kind j, reach.enough, reach.within, w.asked.few, w.asked.room))
+          w.within
+          p.puts
+          p.short
+          in
+          record {
+            asked = w.asked;
+            state = left;
+            timetable = goes.left;
+            bytes = w.bytes ++ said;
+            within = record {
+              puts = written.puts;
+              short = omega (arith, written.short, said_most kind j, reach.enough);
+              long = written.long;
+            };
+            to_come =
+                w.to_come
+                ∙ ap (λ x. w.bytes ++ printed setup_by_default st x) turned
+                ∙ ap (λ x. w.bytes ++ x) (printed_call setup_by_default st c rest)
+                ∙ ap (λ x. w.bytes ++ (x ++ printed setup_by_default left rest)) same
+                ∙ sym (append_assoc w.bytes said (printed setup_by_default left rest));
+            inside = reach.within;
+          }
 
 -- What stands in the buffer at the end.
 

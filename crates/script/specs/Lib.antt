@@ -7,5 +7,6 @@ pub mod Program
 pub mod Demands
 pub mod Laws
 pub mod Contract
+pub mod Kinds
 pub mod Called
 pub mod Parts

@@ -1,24 +1,27 @@
 -- Between functions: what the parts of `run` ask and answer, in the words of the definitions. Document 01, "The program `register`".
-use Rattle.std.specs.Prelude.{◌≡◌, List, ◌++◌, map, ℕ, ◌+◌, ◌*◌, ◌≤◌, ◌<◌, length, drop}
+use Rattle.std.specs.Prelude.{◌≡◌, List, ◌++◌, map, ℕ, ◌+◌, ◌*◌, ◌≤◌, length, drop, Result, Ok, Err}
 use Rattle.std.proofs.Math.Option.{some}
 use Rattle.rules.specs.declared.Answer.{Answer}
 use Rattle.rules.specs.declared.Setup.{Setup}
 use Rattle.rules.specs.Sequences.{joined}
 use Rattle.rules.specs.Words.{State, fresh, row_limit}
-use Rattle.rules.specs.Refusals.{Call, submits}
-use Rattle.timetable.specs.declared.Status.{Status}
-use Rattle.rules.specs.declared.Kind.{Kind}
-use Rattle.rules.specs.declared.Kind.TheVariants.{Submit, Withdraw, Advance}
+use Rattle.rules.specs.Refusals as Rules
+use Rattle.rules.specs.Refusals.{submits}
+use Rattle.rules.specs.declared.Job.{Job}
+use Rattle.timetable.specs.declared.Timetable.{Timetable}
 use Rattle.timetable.specs.Timetables.{TimetableOf, AskTimetable}
-use Rattle.script.specs.Called.{AsksFor}
 use Rattle.lines.specs.Figures.{field}
 use Rattle.lines.specs.Parts.{word_digits}
 use Rattle.lines.specs.Put.{Puts}
-use Rattle.script.specs.declared.acts.ActRead.{ActRead}
-use Rattle.script.specs.declared.acts.ActRead.TheVariants.{Called, Unread}
+use Rattle.lines.specs.declared.line.Reading.{Reading}
+use Rattle.lines.specs.Readings.{fault_number}
+use Rattle.script.specs.declared.acts.Kind.{Kind}
+use Rattle.script.specs.declared.acts.Kind.TheVariants.{Submit, Withdraw, Advance}
+use Rattle.script.specs.declared.acts.Stop.{Stop}
+use Rattle.script.specs.declared.acts.Stop.TheVariants.{Line, NoAct, TooLong}
 use Rattle.texts.specs.JobText.{job_text}
 use Rattle.texts.specs.Reader.{default_machines}
-use Rattle.texts.specs.Rows.{most_figures}
+use Rattle.script.specs.Kinds.{call_of}
 use Rattle.script.specs.Acts.{Act, call, unread, as_act, number_act, act}
 use Rattle.script.specs.Keys.{job_key, from_key, to_key}
 use Rattle.script.specs.Replies.{answer_key, task_key, cost_key, rows_key, refused_key, submission_reply, stop_line}
@@ -26,35 +29,30 @@ use Rattle.script.specs.Listing.{clock_key, total_key, held_key, machine_key, li
 use Rattle.script.specs.Program.{input_limit}
 use Rattle.script.specs.Contract.{output_size}
 
--- the act that the code read; a submission's job has its figures in the row
-abbrev pub ActSays : Act → (row : List ℕ) → ActRead → Type 0
-ActSays a row (Called next kind) = (c : Call) × (a ≡ call c next) × AsksFor default_machines row kind c
-ActSays a row (Unread number) = a ≡ unread number
+-- the number of a reading refusal
+abbrev pub stop_number : Stop → ℕ
+stop_number (Line fault) = fault_number fault
+stop_number NoAct = 17
+stop_number TooLong = 19
 
-abbrev pub UnreadNumber : ActRead → ℕ → Type 0
-UnreadNumber act r = (number : ℕ) → act ≡ Unread number → r ≡ number
+-- the act that the code read
+abbrev pub act_said : Result (Reading Kind) Stop → Job → Act
+act_said (Ok reading) j = call (call_of reading.value j) reading.next
+act_said (Err stop) j = unread (stop_number stop)
 
-pub record AskJobAct (text : List ℕ) (from : ℕ) (row : List ℕ) : Type 0 where
-  pub within : from ≤ length text
-  pub long : length row ≡ most_figures
+abbrev pub JobActIs : (text : List ℕ) (from : ℕ) → Job → Result (Reading Kind) Stop → Type 0
+JobActIs text from j r = act_said r j ≡ as_act submits from (job_text default_machines (drop from text))
 
-pub record JobActIs (text : List ℕ) (from : ℕ) (row : List ℕ) (r : ActRead) : Type 0 where
-  pub long : length row ≡ most_figures
-  pub says : ActSays (as_act submits from (job_text default_machines (drop from text))) row r
+-- the act that a figure makes, which was read for a call
+abbrev pub figure_said : (ℕ → Rules.Call) → Result (Reading ℕ) Stop → Act
+figure_said make (Ok reading) = call (make reading.value) reading.next
+figure_said make (Err stop) = unread (stop_number stop)
 
-abbrev pub AskNumberAct : (text : List ℕ) → (from : ℕ) → Type 0
-AskNumberAct text from = from ≤ length text
+abbrev pub FigureIs : (key text : List ℕ) → (from : ℕ) → Result (Reading ℕ) Stop → Type 0
+FigureIs key text from r = (make : ℕ → Rules.Call) → figure_said make r ≡ number_act make key text from
 
-abbrev pub NumberActIs : (ℕ → Call) → (key text : List ℕ) → (from : ℕ) → ActRead → Type 0
-NumberActIs make key text from r = (row : List ℕ) → ActSays (number_act make key text from) row r
-
-pub record AskAct (text : List ℕ) (at : ℕ) (row : List ℕ) : Type 0 where
-  pub there : at < length text
-  pub long : length row ≡ most_figures
-
-pub record ActIs (text : List ℕ) (at : ℕ) (row : List ℕ) (r : ActRead) : Type 0 where
-  pub long : length row ≡ most_figures
-  pub says : ActSays (act default_machines text at) row r
+abbrev pub ActIs : (text : List ℕ) (at : ℕ) → Job → Result (Reading Kind) Stop → Type 0
+ActIs text at j r = act_said r j ≡ act default_machines text at
 
 -- the most bytes that a field of a 64-bit number takes: its key, the digits and the line feed
 abbrev pub field_room : (key : List ℕ) → ℕ
@@ -81,14 +79,14 @@ most_for Submit = most_reply
 most_for (Withdraw number) = most_answer
 most_for (Advance tick) = most_answer
 
--- the reply to a call of a kind
+-- the reply to a call
 abbrev pub reply_to : Kind → Answer → List ℕ
 reply_to Submit a = submission_reply a
 reply_to (Withdraw number) a = field answer_key a.number
 reply_to (Advance tick) a = field answer_key a.number
 
 abbrev pub PutsReply : (old : List ℕ) (at : ℕ) → Kind → Answer → (new : List ℕ) (next : ℕ) → Type 0
-PutsReply old at kind a new next = PutsAtMost old at (reply_to kind a) new next (most_for kind)
+PutsReply old at c a new next = PutsAtMost old at (reply_to c a) new next (most_for c)
 
 abbrev pub most_heading : ℕ
 most_heading = field_room clock_key + field_room total_key + field_room held_key
@@ -115,36 +113,31 @@ abbrev pub most_listing : ℕ
 most_listing = most_heading + row_limit * most_row
 
 -- what is asked where a timetable is listed, and what is written, whichever state it is of
-pub record AskRows (output : List ℕ) (at : ℕ) (begins ends jobs notes : List ℕ) (count : ℕ) : Type 0 where
-  pub status : Status
-  pub timetable : AskTimetable begins ends jobs notes status
-  pub count_is : count ≡ status.count
+pub record AskRows (output : List ℕ) (at : ℕ) (t : Timetable) : Type 0 where
+  pub timetable : AskTimetable t
   pub room : at + row_limit * most_row ≤ length output
 
-abbrev pub PutsRows : (old : List ℕ) (at : ℕ) (begins ends jobs notes : List ℕ) (count : ℕ) (new : List ℕ) (next : ℕ) → Type 0
-PutsRows old at begins ends jobs notes count new next =
-    (s : Setup) (st : State) (status : Status) → TimetableOf s st begins ends jobs notes status → count ≡ status.count →
-    Puts old at (joined (map row_bytes (sorted st.rows))) new next
+abbrev pub PutsRows : (old : List ℕ) (at : ℕ) → Timetable → (new : List ℕ) (next : ℕ) → Type 0
+PutsRows old at t new next = (s : Setup) (st : State) → TimetableOf s st t → Puts old at (joined (map row_bytes (sorted st.rows))) new next
 
-pub record AskListing (output : List ℕ) (at : ℕ) (begins ends jobs notes : List ℕ) (status : Status) : Type 0 where
-  pub timetable : AskTimetable begins ends jobs notes status
+pub record AskListing (output : List ℕ) (at : ℕ) (t : Timetable) : Type 0 where
+  pub timetable : AskTimetable t
   pub room : at + most_listing ≤ length output
 
-abbrev pub PutsListing : (old : List ℕ) (at : ℕ) (begins ends jobs notes : List ℕ) → Status → (new : List ℕ) (next : ℕ) → Type 0
-PutsListing old at begins ends jobs notes status new next =
-    (s : Setup) (st : State) → TimetableOf s st begins ends jobs notes status → Puts old at (listing st) new next
+abbrev pub PutsListing : (old : List ℕ) (at : ℕ) → Timetable → (new : List ℕ) (next : ℕ) → Type 0
+PutsListing old at t new next = (s : Setup) (st : State) → TimetableOf s st t → Puts old at (listing st) new next
 
 -- the most bytes that a reading refusal takes
 abbrev pub most_stop : ℕ
 most_stop = field_room refused_key
 
-pub record AskRefusal (output : List ℕ) (at : ℕ) (begins ends jobs notes : List ℕ) (status : Status) : Type 0 where
-  pub timetable : AskTimetable begins ends jobs notes status
+pub record AskRefusal (output : List ℕ) (at : ℕ) (t : Timetable) : Type 0 where
+  pub timetable : AskTimetable t
   pub room : at + (most_stop + most_listing) ≤ length output
 
-abbrev pub PutsRefusal : (old : List ℕ) (at number : ℕ) (begins ends jobs notes : List ℕ) → Status → (new : List ℕ) (next : ℕ) → Type 0
-PutsRefusal old at number begins ends jobs notes status new next =
-    (s : Setup) (st : State) → TimetableOf s st begins ends jobs notes status → Puts old at (stop_line (some number) ++ listing st) new next
+abbrev pub PutsRefusal : (old : List ℕ) (at : ℕ) → Stop → Timetable → (new : List ℕ) (next : ℕ) → Type 0
+PutsRefusal old at stop t new next =
+    (s : Setup) (st : State) → TimetableOf s st t → Puts old at (stop_line (some (stop_number stop)) ++ listing st) new next
 
 -- what is written for an input above the limit
 abbrev pub too_long_output : List ℕ

@@ -1,81 +1,108 @@
 // What stands at a place of a script: an act line, and the job text, the number or the tick that it calls for.
-ghost use Rattle.rules.specs.Refusals.{submits, withdraws, advances};
-ghost use Rattle.script.specs.Keys.{job_key, tick_key};
-ghost use Rattle.script.specs.Parts.{AskJobAct, JobActIs, AskNumberAct, NumberActIs, AskAct, ActIs, UnreadNumber};
+ghost use Rattle.std.specs.Prelude.{◌≡◌, ◌<◌, ◌≤◌, length};
+ghost use Rattle.lines.specs.DueLines.{key_bytes};
+ghost use Rattle.script.specs.declared.acts.Stop.TheVariants.{Line};
+ghost use Rattle.script.specs.Parts.{stop_number, JobActIs, FigureIs, ActIs};
 
-use figures::reading::read_job_row;
 use lines::keys::Key;
-use lines::line::{Reading, any_figure, begins_with, read_line, reading_number};
-use rules::{DEFAULT_MACHINES, Kind};
-use texts::job::FIGURES;
+use lines::line::{DueLine, Fault, Reading, Unread, read_line};
+use rules::Job;
+use texts::job::read_job;
 
-// A call and the place after it, or the number of a reading refusal. A submission's job is in the lent row.
+// What an act calls for, with its figure. A submission's job stands in the place that is lent for it: held here it would be set to zeros
+// again for each act.
 #[derive(Clone, Copy)]
-pub enum ActRead {
-    Called(usize, Kind),
-    Unread(u64),
+pub enum Kind {
+    Submit,
+    Withdraw(u64),
+    Advance(u64),
 }
 
-// The number of a reading refusal, where no call was read.
-pub fn unread_number(act: ActRead) -> u64
-    ensures { UnreadNumber act result }
-{
-    match act {
-        ActRead::Called(_, _) => 0,
-        ActRead::Unread(number) => number,
+// Why reading a script ends before its input does.
+#[derive(Clone, Copy, PartialEq, Eq)]
+pub enum Stop {
+    // A line that an act calls for is refused.
+    Line(Fault),
+    // No act line stands where one is due.
+    NoAct,
+    // The input is above the limit: nothing of it is acted on.
+    TooLong,
+}
+
+impl Stop {
+    pub fn number(self) -> u64
+        ensures { result ≡ stop_number self }
+    {
+        match self {
+            Stop::Line(fault) => fault.number(),
+            Stop::NoAct => 17,
+            Stop::TooLong => 19,
+        }
     }
 }
+
+impl From<Unread> for Stop {
+    ghost from_gives = { λ unread stop. stop ≡ Line unread.fault };
+
+    fn from(unread: Unread) -> Stop {
+        Stop::Line(unread.fault)
+    }
+}
+
+// The act lines, line feed included.
+const SUBMIT: &[u8] = b"act=submit\n";
+
+const WITHDRAW: &[u8] = b"act=withdraw\n";
+
+const CLOCK: &[u8] = b"act=clock\n";
 
 // The part of the script that starts at the job's first line is handed to the job reader.
-fn submit_act(input: &[u8], from: usize, row: &mut [u64; FIGURES]) -> ActRead
-    requires { AskJobAct input.now from row.old }
-    ensures { JobActIs input.now from row.new result }
+fn submit_act(input: &[u8], from: usize, job: &mut Job) -> Result<Reading<Kind>, Stop>
+    requires { from ≤ length input.now }
+    ensures { JobActIs input.now from job.new result }
 {
-    let read = read_job_row(&input[from..], DEFAULT_MACHINES as u64, row);
-    let Reading::Read(_, next) = read else {
-        return ActRead::Unread(reading_number(read));
-    };
-    ActRead::Called(from + next, Kind::Submit)
+    let read = read_job(&input[from..])?;
+    *job = read.value;
+    Ok(Reading {
+        value: Kind::Submit,
+        next: from + read.next,
+    })
 }
 
-fn withdraw_act(input: &[u8], from: usize) -> ActRead
-    requires { AskNumberAct input.now from }
-    ensures { NumberActIs withdraws job_key input.now from result }
+// The figure of the line that stands at a place, with the key that is due.
+fn figure_act(input: &[u8], from: usize, key: Key) -> Result<Reading<u64>, Stop>
+    requires { from ≤ length input.now }
+    ensures { FigureIs (key_bytes key) input.now from result }
 {
-    let due = any_figure(Key::Job);
-    let line = read_line(&input[from..], 0, due);
-    let Reading::Read(number, next) = line else {
-        return ActRead::Unread(reading_number(line));
-    };
-    ActRead::Called(from + next, Kind::Withdraw(number))
+    let line = read_line(&input[from..], 0, DueLine::any_figure(key))?;
+    Ok(Reading {
+        next: from + line.next,
+        ..line
+    })
 }
 
-fn advance_act(input: &[u8], from: usize) -> ActRead
-    requires { AskNumberAct input.now from }
-    ensures { NumberActIs advances tick_key input.now from result }
-{
-    let due = any_figure(Key::Tick);
-    let line = read_line(&input[from..], 0, due);
-    let Reading::Read(tick, next) = line else {
-        return ActRead::Unread(reading_number(line));
-    };
-    ActRead::Called(from + next, Kind::Advance(tick))
-}
-
-// The act at a place before the input's end.
-pub fn next_act(input: &[u8], at: usize, row: &mut [u64; FIGURES]) -> ActRead
-    requires { AskAct input.now at row.old }
-    ensures { ActIs input.now at row.new result }
+// The act at a place before the input's end: its call, and the place after it.
+pub fn next_act(input: &[u8], at: usize, job: &mut Job) -> Result<Reading<Kind>, Stop>
+    requires { at < length input.now }
+    ensures { ActIs input.now at job.new result }
 {
     let rest = &input[at..];
-    if begins_with(rest, b"act=submit\n") {
-        return submit_act(input, at + 11, row);
+    if rest.starts_with(SUBMIT) {
+        return submit_act(input, at + SUBMIT.len(), job);
     }
-    if begins_with(rest, b"act=withdraw\n") {
-        return withdraw_act(input, at + 13);
+    if rest.starts_with(WITHDRAW) {
+        let number = figure_act(input, at + WITHDRAW.len(), Key::Job)?;
+        return Ok(Reading {
+            value: Kind::Withdraw(number.value),
+            next: number.next,
+        });
     }
-    if begins_with(rest, b"act=clock\n") {
-        return advance_act(input, at + 10);
+    if rest.starts_with(CLOCK) {
+        let tick = figure_act(input, at + CLOCK.len(), Key::Tick)?;
+        return Ok(Reading {
+            value: Kind::Advance(tick.value),
+            next: tick.next,
+        });
     }
-    ActRead::Unread(17)
+    Err(Stop::NoAct)
 }

@@ -4,10 +4,9 @@ ghost use Rattle.script.specs.Listing.{task_listed, message_listed, row_bytes, h
 ghost use Rattle.script.specs.Parts.{PutsAtMost, most_heading, span_listed, most_span, most_row, AskRows, PutsRows, AskListing, PutsListing};
 
 use crate::output::put_any_field;
-use placement::own::{Entry, row_of};
+use placement::own::Entry;
 use rules::{Holder, Row};
-use timeline::notes::note_at;
-use timetable::Status;
+use timetable::Timetable;
 
 fn put_heading(output: &mut [u8], at: usize, clock: u64, total: u64, held: u64) -> usize
     requires { at + most_heading ≤ length output.old }
@@ -61,8 +60,7 @@ fn put_row(output: &mut [u8], at: usize, row: Row) -> usize
     requires { at + most_row ≤ length output.old }
     ensures { PutsAtMost output.old at (row_bytes row) output.new result most_row }
 {
-    let holder = row.holder;
-    match holder {
+    match row.holder {
         Holder::TaskOn { machine, task } => put_task_row(
             output,
             at,
@@ -88,49 +86,31 @@ fn put_row(output: &mut [u8], at: usize, row: Row) -> usize
 }
 
 // The rows in their order, which is that of the timeline.
-fn put_rows<'a>(
-    output: &'a mut [u8],
-    at: usize,
-    begins: &'a [u64],
-    ends: &'a [u64],
-    jobs: &'a [u16],
-    notes: &'a [u64],
-    count: usize,
-) -> usize
-    requires { AskRows output.old at begins.now ends.now jobs.now notes.now count }
-    ensures { PutsRows output.old at begins.now ends.now jobs.now notes.now count
-        output.new result }
+fn put_rows(output: &mut [u8], at: usize, timetable: &Timetable) -> usize
+    requires { AskRows output.old at timetable.now }
+    ensures { PutsRows output.old at timetable.now output.new result }
 {
     let mut next = at;
-    let mut k: usize = 0;
-    while k < count {
-        let note = note_at(notes, k);
+    for k in 0..timetable.line.count() {
+        let (begin, end) = timetable.line.span(k);
+        let note = timetable.notes[k];
         let entry = Entry {
-            at: 0,
-            begin: begins[k],
-            end: ends[k],
-            label: note.label,
+            at: k,
+            begin,
+            end,
+            holder: note.holder,
             cost: note.cost,
         };
-        next = put_row(output, next, row_of(entry, jobs[k]));
-        k += 1;
+        next = put_row(output, next, entry.row(timetable.jobs[k]));
     }
     next
 }
 
-pub fn put_listing<'a>(
-    output: &'a mut [u8],
-    at: usize,
-    begins: &'a [u64],
-    ends: &'a [u64],
-    jobs: &'a [u16],
-    notes: &'a [u64],
-    status: Status,
-) -> usize
-    requires { AskListing output.old at begins.now ends.now jobs.now notes.now status }
-    ensures { PutsListing output.old at begins.now ends.now jobs.now notes.now status
-        output.new result }
+pub fn put_listing(output: &mut [u8], at: usize, timetable: &Timetable) -> usize
+    requires { AskListing output.old at timetable.now }
+    ensures { PutsListing output.old at timetable.now output.new result }
 {
-    let start = put_heading(output, at, status.clock, status.total, status.count as u64);
-    put_rows(output, start, begins, ends, jobs, notes, status.count)
+    let held = timetable.line.count() as u64;
+    let start = put_heading(output, at, timetable.clock, timetable.total, held);
+    put_rows(output, start, timetable)
 }

@@ -1,4 +1,5 @@
-// A field where there is room for the largest figure.
+// A field where there is room for the largest figure. It stands beside the writer of fields in `lines`, so that callers reckon the room by keys alone, and not
+// each by the digits of its figure.
 ghost use Rattle.std.specs.Prelude.{◌+◌, ◌≤◌, length};
 ghost use Rattle.script.specs.Parts.{field_room, PutsField};
 

@@ -4,8 +4,9 @@ ghost use Rattle.lines.specs.Figures.{field};
 ghost use Rattle.script.specs.Replies.{submission_reply, answer_key};
 ghost use Rattle.script.specs.Parts.{PutsAtMost, most_reply, most_answer, PutsReply};
 
+use crate::acts::Kind;
 use crate::output::put_any_field;
-use rules::{Answer, Kind};
+use rules::Answer;
 
 fn put_submitted(output: &mut [u8], at: usize, answer: Answer) -> usize
     requires { at + most_reply ≤ length output.old }
@@ -25,14 +26,13 @@ fn put_number(output: &mut [u8], at: usize, number: u64) -> usize
     put_any_field(output, at, b"answer=", number)
 }
 
-// The reply to a call of a kind.
+// The reply to a call.
 pub fn put_reply(output: &mut [u8], at: usize, kind: Kind, answer: Answer) -> usize
     requires { at + most_reply ≤ length output.old }
     ensures { PutsReply output.old at kind answer output.new result }
 {
     match kind {
         Kind::Submit => put_submitted(output, at, answer),
-        Kind::Withdraw(_) => put_number(output, at, answer.number),
-        Kind::Advance(_) => put_number(output, at, answer.number),
+        Kind::Withdraw(_) | Kind::Advance(_) => put_number(output, at, answer.number),
     }
 }

@@ -3,6 +3,7 @@ use Rattle.std.specs.Prelude.{◌≡◌, Bool, ◌||◌, cond, ℕ, ◌+◌, ◌
 use Rattle.std.proofs.Math.Option as Maybe
 use Rattle.std.proofs.Math.Option.{none, some}
 use Rattle.rules.specs.declared.Job.{Job}
+use Rattle.rules.specs.Answers.{answered}
 use Rattle.rules.specs.Refusals.{accepted}
 use Rattle.reservation.specs.declared.Register.{Register}
 use Rattle.reservation.specs.declared.Reply.{Reply}
@@ -22,7 +23,7 @@ counted t accepted =
 -- A submission with a lent tally: it is answered as any other, and the tally that is left counts it.
 pub record SubmitsCounted (before : Tally) (r : Register) (j : Job) (after : Tally) (result : Reply) : Type 0 where
   pub submits : Submits r j result
-  pub tally_is : after ≡ counted before (accepted result.answer)
+  pub tally_is : after ≡ counted before (accepted (answered result.answer))
 
 -- 01's number and value for each case of a ratio
 abbrev pub ratio_number : Option ℕ → ℕ

@@ -46,6 +46,6 @@ pub fn submit_counted(t: &mut Tally, register: Register, job: Job) -> Reply
     ensures { SubmitsCounted t.old register job t.new result }
 {
     let reply = register.submit(job);
-    *t = t.counted(reply.answer.number == 0);
+    *t = t.counted(reply.answer.is_ok());
     reply
 }

@@ -61,10 +61,10 @@ read_cases P due more text at good bad = go (line due text at) refl
 pub onto_parsed : (n : ℕ) (p : Parsed (List ℕ)) {ns : List ℕ} {next : ℕ} → onto (n ∷ []) p ≡ parsed ns next →
     (more : List ℕ) × (p ≡ parsed more next) × (ns ≡ n ∷ more)
 onto_parsed n (parsed more last) e = (more, cc, cc)
-onto_parsed n (refused number place) e = absurd (let z : ◌≡◌ {A = ℕ} 0 1 = cc in omega arith)
+onto_parsed n (refused number place) e = cc
 
 onto_refused : (n : ℕ) (p : Parsed (List ℕ)) {number place : ℕ} → onto (n ∷ []) p ≡ refused number place → p ≡ refused number place
-onto_refused n (parsed more last) e = absurd (let z : ◌≡◌ {A = ℕ} 0 1 = cc in omega arith)
+onto_refused n (parsed more last) e = cc
 onto_refused n (refused number place) e = e
 
 pub read_is_written : ReadIsWritten
@@ -93,7 +93,7 @@ read_is_written (ask due more) text at ns next e₀ =
     (λ l. (fills (ask due more) l ≡ true) × Stands (written (ask due more) l) text at next)
     (sym rest.2)
     (and_both (takes due n) (fills (more n) rest.0) (fits_takes one.0) tail.0, stands_join one.1 tail.1))
-    (λ number place bad e. absurd (let z : ◌≡◌ {A = ℕ} 0 1 = cc in omega arith))
+    (λ number place bad e. cc)
     e₀
 
 -- figures that stand there read, and reading goes on with the form that is left
@@ -164,7 +164,7 @@ pub record Ill (form : Form) (text : List ℕ) (at number place : ℕ) : Type 0 
 
 first_ill : (form : Form) (text : List ℕ) (at number place : ℕ) → read form text at ≡ refused number place → Ill form text at number place
 unfolding read written begins_form left
-first_ill done text at number place e = absurd (let z : ◌≡◌ {A = ℕ} 0 1 = cc in omega arith)
+first_ill done text at number place e = cc
 first_ill (ask due more) text at number place e₀ =
     let below : (n mid : ℕ) → read (more n) text mid ≡ refused number place → Ill (more n) text mid number place
     = λ n mid. first_ill (more n) text mid number place in

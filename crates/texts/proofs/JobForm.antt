@@ -1,7 +1,7 @@
 -- The form of a job: what is asked at each of its lines, and how many figures it has at the most.
-use mathlib.Core.Path.{◌≡◌, refl, sym, ap, ◌∙◌}
+use mathlib.Core.Path.{◌≡◌, sym, ap, ◌∙◌}
 use mathlib.Core.Bool.{true, false}
-use mathlib.Core.List.{List, []}
+use mathlib.Core.List.{List}
 use Prim.Native.Nat.{ℕ, zero, suc, ◌+◌, ◌*◌, ◌≤◌}
 use native.Mathlib.Nat.{suc-mul, mul-le-mul_right}
 use native.Mathlib.Omega.{arith}
@@ -9,17 +9,14 @@ use Rattle.rules.specs.Refusals.{outside}
 use Rattle.rules.specs.Words.{most_tasks, most_messages}
 use Rattle.rules.proofs.Sequences.{or_false}
 use Rattle.rules.proofs.Order.{in_between}
-use Rattle.texts.specs.declared.job_lines.JobLine.{JobLine}
-use Rattle.texts.specs.declared.job_lines.JobLine.TheVariants.{Number, Scheduling, Tasks, Deadline, Dispatch, Run, Messages, From, To, Volume}
 use Rattle.lines.specs.declared.line.DueLine.{DueLine}
 use Rattle.lines.specs.Figures.{bytes}
 use Rattle.lines.specs.Lines.{ranged}
-use Rattle.texts.specs.Forms.{Form, ask, fills}
+use Rattle.texts.specs.Forms.{Form, ask}
 use Rattle.lines.specs.Lines.{takes}
 use Rattle.texts.specs.JobText.{head_size, task_size, message_size, run_lines, tasks_lines, messages_lines, sent_lines, job_form}
 use Rattle.lines.specs.DueLines.{due_of}
-use Rattle.texts.specs.Stages.{job_at}
-use Rattle.texts.specs.Parts.{JobDueIs, AtMost, at_end, at_line}
+use Rattle.texts.specs.Parts.{DueIs, AtMost, at_end, at_line}
 use Rattle.lines.proofs.LineLaws.{takes_fits}
 use Rattle.texts.proofs.Staged.{at_most_more}
 
@@ -29,27 +26,10 @@ taken_between key least most n t = in_between least most n (or_false (outside le
 
 -- the line that is due
 pub due_is :
-    {line known : JobLine} {r : DueLine} {key : List ℕ} {least most : ℕ} → line ≡ known → due_of r ≡ ranged key least most →
-    ((machines : ℕ) → (more : ℕ → Form) × (job_at machines known ≡ ask (ranged key least most) more)) → JobDueIs line r
-due_is {line} {known} {r} e d form =
-    record {
-      asks = λ machines. record { more = (form machines).0; is = ap (job_at machines) e ∙ (form machines).1 ∙ ap (λ due. ask due (form machines).0) (sym d) };
-      digits = let n = ap (λ due. due.digits) d in omega arith;
-    }
-
--- what is left at a line asks for a figure
-pub job_not_filled : (machines : ℕ) (line : JobLine) → fills (job_at machines line) [] ≡ false
-unfolding fills run_lines tasks_lines messages_lines
-job_not_filled machines Number = refl
-job_not_filled machines Scheduling = refl
-job_not_filled machines Tasks = refl
-job_not_filled machines (Deadline left) = refl
-job_not_filled machines (Dispatch left) = refl
-job_not_filled machines (Run left runs) = refl
-job_not_filled machines Messages = refl
-job_not_filled machines (From left) = refl
-job_not_filled machines (To left) = refl
-job_not_filled machines (Volume left) = refl
+    {form : Form} {r : DueLine} {key : List ℕ} {least most : ℕ} {more : ℕ → Form} → form ≡ ask (ranged key least most) more →
+    due_of r ≡ ranged key least most → DueIs form r
+due_is {more = more} e d =
+    record { more = more; is = e ∙ ap (λ due. ask due more) (sym d); digits = let n = ap (λ due. due.digits) d in omega arith }
 
 -- How many figures.
 

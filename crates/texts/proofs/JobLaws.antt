@@ -2,16 +2,16 @@
 use mathlib.Core.Path.{◌≡◌, refl, sym, ap, ◌∙◌, subst}
 use mathlib.Core.Bool.{true, ◌&&◌}
 use mathlib.Core.List.{List, [], ◌∷◌, ◌++◌, map, append_assoc, append-nil}
-use Prim.Native.Nat.{ℕ, zero, suc, ◌+◌, ◌*◌, ◌≤◌, ◌<◌}
-use native.Mathlib.Nat.{mul-le-mul, mul-le-mul_right}
+use Prim.Native.Nat.{ℕ, ◌+◌, ◌*◌, ◌≤◌, ◌<◌}
+use native.Mathlib.Nat.{add-zero}
 use native.Mathlib.Omega.{arith}
 use lib.Dec.{leb}
-use lib.ListN.{length, get_or, take, drop, length-append}
+use lib.ListN.{length, get_or, take, drop}
 use lib.Seq.{drop-drop, take_at, drop_at, drop-append_seam, length-take-le, get_or-take}
 use borrow.Author.Tests.{le-leb, leb-true}
-use Rattle.rules.specs.declared.Message.{Message}
+use Rattle.std.proofs.lemmas.List.{map-id, get_or-drop}
 use Rattle.rules.specs.declared.Job.{Job}
-use Rattle.rules.specs.Words.{most_tasks, most_messages, most_machines, no_task}
+use Rattle.rules.specs.Words.{most_tasks, most_messages, no_task}
 use Rattle.rules.specs.Sequences.{all_of, joined}
 use Rattle.rules.proofs.Sequences.{clash, by_test, and_true, and_both}
 use Rattle.lines.specs.Lines.{Parsed, parsed, refused}
@@ -22,7 +22,6 @@ use Rattle.texts.specs.JobText.{as_job, job_text}
 use Rattle.texts.specs.JobText.{task_figures, message_figures, job_figures, short, writable, written_job, blanked_task, blanked}
 use Rattle.lines.specs.Laws.{Stands}
 use Rattle.texts.specs.Laws.{Sized, FiguresAgain, SaidAgain, WrittenAgain, ReadsBackAlways, FillsIfWritable}
-use Rattle.texts.specs.Rows.{most_figures}
 use Rattle.lines.proofs.Standing.{stands_take}
 use Rattle.texts.proofs.FormLaws.{read_is_written, filled_reads}
 use Rattle.texts.proofs.JobParts.{Parts, filled_parts, parts_fill}
@@ -62,12 +61,10 @@ module _ (machines : ℕ) {ns : List ℕ} (p : Parts machines ns) where
         at = let many = p.tasks_many in omega arith
 
     count_there : get_or in_parts (messages_at machines in_parts) 0 ≡ p.messagecount
-    count_there = at_drop (messages_at machines in_parts) in_parts ∙ ap (λ l. get_or l 0 0) past_tasks
-      where
-        at_drop : (n : ℕ) (l : List ℕ) → get_or l n 0 ≡ get_or (drop n l) 0 0
-        at_drop zero l = refl
-        at_drop (suc n) [] = refl
-        at_drop (suc n) (x ∷ l) = at_drop n l
+    count_there =
+        ap (λ k. get_or in_parts k 0) (sym (add-zero (messages_at machines in_parts)))
+        ∙ sym (get_or-drop (messages_at machines in_parts) in_parts 0 0)
+        ∙ ap (λ l. get_or l 0 0) past_tasks
 
     messages_there : drop (messages_at machines in_parts + 1) in_parts ≡ p.messages ++ rest
     messages_there = sym (drop-drop 1 (messages_at machines in_parts) in_parts) ∙ ap (drop 1) past_tasks
@@ -248,10 +245,6 @@ module _ (machines : ℕ) (j : Job) (sized : Sized machines j) (w : writable mac
           (sym (listed_tasks machines j sized few))
           ∙ groups_joined task_said (task_figures machines) (task_size machines) no_task (take j.taskcount j.tasks) (task_long machines j sized few)
 
-      same_messages : (l : List Message) → map (λ m. message_said (message_figures m)) l ≡ l
-      same_messages [] = refl
-      same_messages (m ∷ l) = ap (λ r. m ∷ r) (same_messages l)
-
       messages_again :
           groups message_said message_size j.messagecount (joined (map message_figures (take j.messagecount j.messages))) ≡ take j.messagecount
           j.messages
@@ -259,7 +252,7 @@ module _ (machines : ℕ) (j : Job) (sized : Sized machines j) (w : writable mac
           ap (λ k. groups message_said message_size k (joined (map message_figures (take j.messagecount j.messages))))
           (sym (listed_messages machines j sized counts.messages_at_most))
           ∙ groups_joined message_said message_figures message_size message_of_zeros (take j.messagecount j.messages) (λ i h. refl)
-          ∙ same_messages (take j.messagecount j.messages)
+          ∙ map-id (take j.messagecount j.messages)
 
 -- The two laws.
 
@@ -281,7 +274,7 @@ written_again machines text j next e = go (read (job_form machines) text 0) refl
               ∙ ap (written_job machines) is,
           subst (λ j. writable machines j ≡ true) is (said_writable machines parts),
         )
-    go (refused number place) r q = absurd (let z : ◌≡◌ {A = ℕ} 0 1 = cc in omega arith)
+    go (refused number place) r q = cc
 
 pub reads_back : ReadsBackAlways
 unfolding job_text
@@ -327,17 +320,3 @@ fills_if_writable machines j sized =
     (fills (job_form machines) figures)
     (λ f. clash (counts_writable machines j (filled_counts machines j sized (filled_parts machines figures f))) u)
     (λ f. f ∙ sym u))
-
--- a row has room for the figures of a job whose counts are in range
-pub figures_within :
-    (machines : ℕ) (j : Job) → Sized machines j → j.taskcount ≤ most_tasks → j.messagecount ≤ most_messages → length (job_figures machines j) ≤ most_figures
-figures_within machines j sized few less =
-    let tasks : List ℕ = joined (map (task_figures machines) (take j.taskcount j.tasks)) in
-    let messages : List ℕ = joined (map message_figures (take j.messagecount j.messages)) in
-    let all = length-append tasks (j.messagecount ∷ messages) in
-    let a = tasks_many machines j sized few in
-    let b = messages_many machines j sized less in
-    let size : task_size machines ≤ task_size most_machines = let room = sized.machines_at_most in omega arith in
-    let c = mul-le-mul few size in
-    let d = mul-le-mul_right message_size less in
-    omega arith

@@ -6,24 +6,22 @@ use Prim.Native.Nat.{ℕ, ◌+◌, ◌≤◌, ◌<◌}
 use native.Mathlib.Nat.{zero-add}
 use native.Mathlib.Omega.{arith}
 use lib.ListN.{length, take, drop}
-use lib.Seq.{length-take-le, take-append_seam, take_all}
+use lib.Seq.{take-append_seam, take_all}
+use Rattle.std.proofs.Common.{Result, Ok, Err}
 use Rattle.rules.specs.declared.Job.{Job}
 use Rattle.rules.specs.Words.{most_tasks, most_messages, most_machines}
 use Rattle.rules.proofs.Sequences.{clash, by_test, and_true}
 use Rattle.lines.specs.Lines.{parsed, takes}
-use Rattle.lines.specs.Readings.{parsed_number, parsed_place}
 use Rattle.lines.specs.Put.{Puts}
-use Rattle.texts.specs.declared.forms.WriterAnswer.{WriterAnswer}
+use Rattle.texts.specs.declared.forms.Unwritten.{Unwritten}
+use Rattle.texts.specs.declared.forms.Unwritten.TheVariants.{Unwritable, NoRoom}
 use Rattle.texts.specs.Forms.{Form, written, fills}
 use Rattle.texts.specs.JobText.{job_form, job_figures, job_text, writable, written_job, blanked}
-use Rattle.texts.specs.Reader.{job_or_blank}
-use Rattle.texts.specs.Writer.{write_number, write_left, Writes, unwritable_number, WritesJob, unfilled_number, WritesFigures}
+use Rattle.texts.specs.Writer.{write_number, write_left, number_written, length_written, Writes, unwritable_number, WritesJob, unfilled_number, WritesFigures}
 use Rattle.texts.specs.Laws.{Sized, WrittenReadsBack, ReadWholeWritten}
-use Rattle.texts.specs.Parts.{AtMost, at_end, at_line, most_written, unwritten_answer}
-use Rattle.texts.specs.Rows.{most_figures}
-use Rattle.lines.proofs.Put.{puts_long}
+use Rattle.texts.specs.Parts.{AtMost, at_end, at_line, most_written}
 use Rattle.texts.proofs.Figured.{job_room}
-use Rattle.texts.proofs.JobLaws.{WritableCounts, writable_counts, fills_if_writable, figures_within, written_again, reads_back}
+use Rattle.texts.proofs.JobLaws.{WritableCounts, writable_counts, fills_if_writable, written_again, reads_back}
 use Rattle.texts.proofs.Reached.{reads_parsed}
 use Rattle.texts.proofs.Writers.{judged_unwritten, writer_laws}
 
@@ -54,17 +52,12 @@ written_reads_back machines j sized old new r w e back reads =
     let there : new ≡ text ++ drop (length text) old = w.buffer_is ∙ ap (λ n. write_left n text old) number in
     let found : job_text machines new ≡ parsed (blanked machines j) (length text)
     = ap (job_text machines) there ∙ reads_back machines j sized (accepted_writable machines j text old number) (drop (length text) old) in
-    record {
-      same_job = reads.job_is ∙ ap job_or_blank found;
-      was_read = reads.number_is ∙ ap parsed_number found;
-      next_is = reads.place_is ∙ ap parsed_place found ∙ sym (w.length_is ∙ (laws.text_stands number).0);
-    }
+    reads ∙ found ∙ ap (parsed (blanked machines j)) (sym (w.length_is ∙ (laws.text_stands number).0))
 
 pub read_whole_written : ReadWholeWritten
 unfolding write_left
-read_whole_written machines text it count reads e =
-    let j : Job = it.job in
-    let again = written_again machines text j (length text) (reads_parsed machines text it reads e) in
+read_whole_written machines text j back reads e =
+    let again = written_again machines text j (length text) (reads_parsed machines text back reads e) in
     let same : written_job machines j ≡ text = sym again.0 ∙ take_all (length text) text (omega arith) in
     let first : unwritable_number machines j ≡ 0 = rw again.1 refl in
     let long = ap length same in
@@ -74,38 +67,26 @@ read_whole_written machines text it count reads e =
       same_bytes = λ old new r w room.
           let laws = writer_laws (unwritable_number machines j) (written_job machines j) old in
           let number = laws.accepted first (omega arith) in (
-            w.number_is ∙ number,
-            w.length_is ∙ (laws.text_stands number).0 ∙ long,
+            accepted r (w.number_is ∙ number) (w.length_is ∙ (laws.text_stands number).0 ∙ long),
             w.buffer_is ∙ ap (λ n. write_left n (written_job machines j) old) number ∙ ap (λ l. l ++ drop (length l) old) same,
           );
     }
+  where
+    -- what is answered where no number refuses
+    accepted : (r : Result ℕ Unwritten) {size : ℕ} → number_written r ≡ 0 → length_written r ≡ size → r ≡ Ok size
+    accepted (Ok written) n l = ap Ok l
+    accepted (Err Unwritable) n l = absurd (omega arith)
+    accepted (Err NoRoom) n l = absurd (omega arith)
 
 -- What the writers' functions answer.
 
-module _ (machines : ℕ) (figures : List ℕ) {old new : List ℕ} {r : WriterAnswer} where
-  -- a row that fills the form
-  pub filled_written :
-      fills (job_form machines) figures ≡ true → Writes 0 (written (job_form machines) figures) old new r → WritesFigures machines figures old new r
-  filled_written f w = subst (λ n. Writes n (written (job_form machines) figures) old new r) (sym (rw f refl)) w
-
 -- 20: what was tested before the room is not so, and nothing was written
-pub unfit_unwritten : {fit : Bool} (text old : List ℕ) {r : WriterAnswer} → fit ≡ false → r ≡ unwritten_answer 20 → Writes (cond fit 0 20) text old old r
-unfit_unwritten text old f e = rw (f, e) (judged_unwritten text old 20 refl)
-
--- all figures of a row
-pub whole_written :
-    (machines : ℕ) (row : List ℕ) {old new : List ℕ} {r : WriterAnswer} → WritesFigures machines (take (length row) row) old new r →
-    WritesFigures machines row old new r
-whole_written machines row {old} {new} {r} w = subst (λ l. WritesFigures machines l old new r) (take_all (length row) row (omega arith)) w
+pub unfit_unwritten : {fit : Bool} (text old : List ℕ) → fit ≡ false → Writes (cond fit 0 20) text old old (Err Unwritable)
+unfit_unwritten text old f = rw f (judged_unwritten text old)
 
 -- so many figures can be counted
-pub filled_few :
-    (machines count : ℕ) (row : List ℕ) → machines ≤ most_machines → count ≤ length row → fills (job_form machines) (take count row) ≡ true →
-    count ≤ most_written
-filled_few machines count row few within f =
-    let many = filled_at_most (job_room machines few) (take count row) f in
-    let all = length-take-le count row within in
-    omega arith
+pub filled_few : (machines : ℕ) (figures : List ℕ) → machines ≤ most_machines → fills (job_form machines) figures ≡ true → length figures ≤ most_written
+filled_few machines figures few f = let many = filled_at_most (job_room machines few) figures f in omega arith
 
 -- counts out of range
 not_counted : (machines : ℕ) (j : Job) → (WritableCounts machines j → ⊥) → writable machines j ≡ false
@@ -123,21 +104,11 @@ row_front {old} {figures} {new} {next} p =
     let n : next ≡ length figures = p.next_is ∙ zero-add (length figures) in
     rw (n, p.new_is) (take-append_seam figures (drop (0 + length figures) old))
 
--- the row of a job whose counts are in range keeps its length
-pub job_row_long :
-    (machines : ℕ) (j : Job) → Sized machines j → j.taskcount ≤ most_tasks → j.messagecount ≤ most_messages → {old new : List ℕ} {next : ℕ} →
-    length old ≡ most_figures → Puts old 0 (job_figures machines j) new next → (length new ≡ most_figures) × (next ≤ length new)
-job_row_long machines j sized few less {old} {new} {next} room p =
-    let fit = figures_within machines j sized few less in
-    let long = puts_long p (omega arith) ∙ room in
-    let n = p.next_is in
-    (long, omega arith)
-
 -- a row that holds the job's figures
 pub row_written :
-    (machines : ℕ) (j : Job) → Sized machines j → {figures old new : List ℕ} {r : WriterAnswer} → figures ≡ job_figures machines j →
+    (machines : ℕ) (j : Job) → Sized machines j → {figures old new : List ℕ} (r : Result ℕ Unwritten) → figures ≡ job_figures machines j →
     WritesFigures machines figures old new r → WritesJob machines j old new r
-row_written machines j sized {old = old} {new = new} {r = r} is w =
+row_written machines j sized {old = old} {new = new} r is w =
     let same : unfilled_number machines (job_figures machines j) ≡ unwritable_number machines j
     = ap (λ b. cond b 0 20) (fills_if_writable machines j sized) in
     subst (λ n. Writes n (written_job machines j) old new r) same (subst (λ l. WritesFigures machines l old new r) is w)

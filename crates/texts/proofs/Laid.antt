@@ -1,24 +1,18 @@
 -- The figures of a job, laid into a row: one by one, and entry by entry.
-use mathlib.Core.Path.{◌≡◌, refl, sym, ap, ◌∙◌, subst}
+use mathlib.Core.Path.{◌≡◌, sym, ap, ◌∙◌}
 use mathlib.Core.List.{List, [], ◌∷◌, ◌++◌, map, append_assoc, append-nil}
 use Prim.Native.Nat.{ℕ, zero, suc, ◌+◌, ◌*◌, ◌≤◌, ◌<◌}
 use native.Mathlib.Nat.{suc-mul, mul-le-mul_right}
 use native.Mathlib.Omega.{arith}
 use native.Mathlib.Numerals.{add-one}
 use lib.ListN.{length, get_or, take, set, length-set}
-use lib.Seq.{length-take-le}
+use lib.Seq.{take_all}
 use Rattle.rules.specs.declared.Job.{Job}
-use Rattle.rules.specs.declared.Task.{Task}
 use Rattle.rules.specs.Sequences.{joined}
-use Rattle.rules.proofs.Sequences.{by_less}
-use Rattle.texts.specs.JobText.{head_size, task_size, task_figures, job_figures}
+use Rattle.texts.specs.JobText.{head_size, task_figures, job_figures}
 use Rattle.lines.specs.Put.{Puts}
 use Rattle.texts.specs.Rows.{sent_figures}
-use Rattle.lines.proofs.Put.{puts_long, puts_then, put_none, put_byte, Copied, copied_all}
-
--- what holds below a number and of it holds below the next
-pub one_more : (P : ℕ → Type 0) {n : ℕ} → ((i : ℕ) → i < n → P i) → P n → (i : ℕ) → i < n + 1 → P i
-one_more P {n} below here i h = by_less i n (below i) (λ l. let same : n ≡ i = omega arith in subst P same here)
+use Rattle.lines.proofs.Put.{puts_long, puts_then, put_byte}
 
 -- the figures of one entry more
 joined_next :
@@ -31,49 +25,43 @@ joined_next figures_of (a ∷ entries) (suc i) blank h =
     ∙ sym (append_assoc (figures_of a) (joined (map figures_of (take i entries))) (figures_of (get_or entries i blank)))
 
 -- the figures of i entries stand in a row from a place on, at most so many of each
-pub record Laid {A : Type 0} (figures_of : A → List ℕ) (size : ℕ) (old : List ℕ) (from : ℕ) (entries : List A) (count : ℕ) (new : List ℕ) (at i : ℕ) : Type 0
-  where
-    pub puts : Puts old from (joined (map figures_of (take i entries))) new at
-    pub few : at ≤ from + i * size
-    pub at_most : i ≤ count
-    pub long : length new ≡ length old
-
-pub laid_none :
-    {A : Type 0} (figures_of : A → List ℕ) (size : ℕ) (old : List ℕ) (from : ℕ) (entries : List A) (count : ℕ) → from ≤ length old →
-    Laid figures_of size old from entries count old from 0
-laid_none figures_of size old from entries count h = record { puts = put_none old from h; few = omega arith; at_most = omega arith; long = refl }
+pub record Laid {A : Type 0} (figures_of : A → List ℕ) (size : ℕ) (old : List ℕ) (from : ℕ) (entries : List A) (new : List ℕ) (at i : ℕ) : Type 0 where
+  pub puts : Puts old from (joined (map figures_of (take i entries))) new at
+  pub few : at ≤ from + i * size
+  pub at_most : i ≤ length entries
+  pub long : length new ≡ length old
 
 module _
-    {A : Type 0} {figures_of : A → List ℕ} {size : ℕ} {old : List ℕ} {from : ℕ} {entries : List A} {count : ℕ} {new : List ℕ} {at i : ℕ}
-    (w : Laid figures_of size old from entries count new at i)
+    {A : Type 0} {figures_of : A → List ℕ} {size : ℕ} {old : List ℕ} {from : ℕ} {entries : List A} {new : List ℕ} {at i : ℕ}
+    (w : Laid figures_of size old from entries new at i)
   where
-    pub laid_within : at ≤ from + count * size
+    pub laid_within : at ≤ from + length entries * size
     laid_within = let few = w.few in let most = mul-le-mul_right size w.at_most in omega arith
 
     -- the next entry has its place
-    pub laid_room : from + count * size ≤ length old → i < count → at + size ≤ length new
+    pub laid_room : from + length entries * size ≤ length old → i < length entries → at + size ≤ length new
     laid_room room h =
         let few = w.few in
         let long = w.long in
         let one = suc-mul i size in
-        let most : suc i * size ≤ count * size = mul-le-mul_right size (omega arith) in
+        let most : suc i * size ≤ length entries * size = mul-le-mul_right size (omega arith) in
         omega arith
 
     pub laid_more :
-        (blank : A) {newer : List ℕ} {next : ℕ} → from + count * size ≤ length old → i < count → count ≤ length entries →
+        (blank : A) {newer : List ℕ} {next : ℕ} → from + length entries * size ≤ length old → i < length entries →
         length (figures_of (get_or entries i blank)) ≤ size → Puts new at (figures_of (get_or entries i blank)) newer next →
-        Laid figures_of size old from entries count newer next (i + 1)
-    laid_more blank {newer} {next} room h listed few p =
+        Laid figures_of size old from entries newer next (i + 1)
+    laid_more blank {newer} {next} room h few p =
         let place = laid_room room h in
         record {
-          puts = rw (add-one i, joined_next figures_of entries i blank (omega arith)) (puts_then (omega arith) w.puts p);
+          puts = rw (add-one i, joined_next figures_of entries i blank h) (puts_then (omega arith) w.puts p);
           few = let n = p.next_is in let m = w.few in let one = suc-mul i size in rw (add-one i) (omega arith);
           at_most = omega arith;
           long = puts_long p (omega arith) ∙ w.long;
         }
 
-    pub laid_all : count ≤ i → Puts old from (joined (map figures_of (take count entries))) new at
-    laid_all h = let same : i ≡ count = let m = w.at_most in omega arith in rw same at w.puts
+    pub laid_all : length entries ≤ i → Puts old from (joined (map figures_of entries)) new at
+    laid_all h = rw (take_all i entries h) at w.puts
 
 -- Figures put one by one.
 
@@ -89,15 +77,6 @@ put_three old at a b c h =
     let l = puts_long first (omega arith) in
     let three : at + 3 ≡ at + 2 + 1 = omega arith in
     rw three (puts_then (omega arith) first (put_byte (set (set old at a) (at + 1) b) (at + 2) c (omega arith)))
-
--- a task's: two, and the run times copied behind them
-pub put_runs :
-    (old : List ℕ) (at machines : ℕ) (t : Task) {new : List ℕ} {m : ℕ} → at + task_size machines ≤ length old → machines ≤ length t.runs → machines ≤ m →
-    Copied (set (set old at t.deadline) (at + 1) t.dispatch) (at + 2) (take machines t.runs) new m →
-    Puts old at (task_figures machines t) new (at + 2 + machines)
-put_runs old at machines t h room last w =
-    let many = length-take-le machines t.runs room in
-    rw many at (puts_then (omega arith) (put_two old at t.deadline t.dispatch (omega arith)) (copied_all w (omega arith)))
 
 -- a job's: its head, its tasks, the count of its messages and they
 pub put_job :

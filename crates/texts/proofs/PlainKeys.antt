@@ -3,7 +3,6 @@ use mathlib.Core.Path.{◌≡◌, refl, ap, subst}
 use mathlib.Core.Bool.{false}
 use mathlib.Core.List.{List, [], ◌∷◌}
 use Prim.Native.Nat.{ℕ, zero, suc}
-use native.Mathlib.Omega.{arith}
 use lib.Dec.{eqb}
 use Rattle.rules.specs.Sequences.{any_of}
 use Rattle.lines.specs.Figures.{line_feed}
@@ -46,7 +45,7 @@ plain_job machines =
     plain_line refl (λ _. plain_line refl (λ _. plain_line refl (λ tasks. plain_tasks machines tasks (plain_line refl plain_messages))))
 
 unread : (machines : ℕ) (p : Parsed (List ℕ)) {number place : ℕ} → as_job machines p ≡ refused number place → p ≡ refused number place
-unread machines (parsed ns next) e = absurd (let z : ◌≡◌ {A = ℕ} 0 1 = cc in omega arith)
+unread machines (parsed ns next) e = cc
 unread machines (refused number place) e = cc
 
 pub job_refused_there : JobRefusedThere

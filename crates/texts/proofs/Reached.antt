@@ -5,17 +5,18 @@ use mathlib.Core.List.{List}
 use Prim.Native.Nat.{ℕ, zero, suc, ◌+◌, ◌≤◌}
 use native.Mathlib.Omega.{arith}
 use lib.ListN.{length, drop, length-append, length-drop}
+use Rattle.std.proofs.Common.{Result, Ok}
 use Rattle.rules.specs.declared.Job.{Job}
 use Rattle.rules.specs.Words.{most_tasks}
-use Rattle.lines.specs.declared.line.Reading.TheVariants.{Read, Refused}
+use Rattle.lines.specs.declared.line.Reading.{Reading}
+use Rattle.lines.specs.declared.line.Unread.{Unread}
 use Rattle.lines.specs.Figures.{bytes, field}
 use Rattle.lines.specs.Lines.{Parsed, parsed, refused, Due, line}
 use Rattle.lines.specs.Readings.{reading_said}
-use Rattle.texts.specs.declared.job.JobRead.{JobRead}
 use Rattle.texts.specs.Forms.{Form, done, ask, read}
 use Rattle.lines.specs.Lines.{takes}
 use Rattle.texts.specs.JobText.{tasks_lines, sent_lines, job_form, as_job, job_text}
-use Rattle.texts.specs.Reader.{with_count, job_or_blank, Reads}
+use Rattle.texts.specs.Reader.{Reads}
 use Rattle.lines.proofs.Decimals.{decimal_some}
 use Rattle.texts.proofs.FormLaws.{onto_parsed, read_cases}
 use Rattle.texts.proofs.JobForm.{taken_between}
@@ -65,7 +66,7 @@ form_within (ask due more) text at {ns} {next} h e =
     let rest = form_within (more n) text mid here.within (onto_parsed n (read (more n) text mid) f).1 in
     let further = rest.on in
     record { on = omega arith; within = rest.within })
-    (λ number place q f. absurd (let z : ◌≡◌ {A = ℕ} 0 1 = cc in omega arith))
+    (λ number place q f. cc)
     e
 
 pub form_reached :
@@ -85,7 +86,7 @@ form_reached text at {ns} {next} (one_line {n = least} {due = due} {more = more}
     let rest = form_reached text mid (below n (fits_takes (line_took due text at n mid q).0)) here.within (onto_parsed n (read (more n) text mid) f).1 in
     let further = rest.on in
     record { on = omega arith; within = rest.within })
-    (λ number place q f. absurd (let z : ◌≡◌ {A = ℕ} 0 1 = cc in omega arith))
+    (λ number place q f. cc)
     e
 
 -- The lines up to a first task's dispatch time are due for every job.
@@ -109,21 +110,15 @@ job_reached machines text job next e = go (read (job_form machines) text 0) refl
   where
     go : (p : Parsed (List ℕ)) → read (job_form machines) text 0 ≡ p → as_job machines p ≡ parsed job next → Reached text 0 least_job next
     go (parsed ns last) q f = let same : last ≡ next = cc in form_reached text 0 (job_at_least machines) (omega arith) (rw same at q)
-    go (refused number place) q f = absurd (let z : ◌≡◌ {A = ℕ} 0 1 = cc in omega arith)
+    go (refused number place) q f = cc
 
 -- what a reading answers that found a job
 pub reads_parsed :
-    (machines : ℕ) (text : List ℕ) (r : JobRead) → Reads machines text r → {n next : ℕ} → r.reading ≡ Read n next →
-    job_text machines text ≡ parsed r.job next
-unfolding job_text
-reads_parsed machines text r reads {n} {next} e = go (read (job_form machines) text 0) reads.reading_is.answer_is reads.job_is
-  where
-    go :
-        (p : Parsed (List ℕ)) → r.reading ≡ reading_said (with_count p) → r.job ≡ job_or_blank (as_job machines p) →
-        as_job machines p ≡ parsed r.job next
-    go (parsed ns last) q j = let same : Read n next ≡ Read (length ns) last = sym e ∙ q in let to : next ≡ last = cc in rw (to, j) refl
-    go (refused number place) q j = absurd (let o : Read n next ≡ Refused number place = sym e ∙ q in let z : ◌≡◌ {A = ℕ} 0 1 = cc in omega arith)
+    (machines : ℕ) (text : List ℕ) (r : Result (Reading Job) Unread) → Reads machines text r → {it : Reading Job} → r ≡ Ok it →
+    job_text machines text ≡ parsed it.value it.next
+reads_parsed machines text r reads e = sym reads ∙ ap reading_said e
 
 pub reads_reached :
-    (machines : ℕ) (text : List ℕ) (r : JobRead) → Reads machines text r → {n next : ℕ} → r.reading ≡ Read n next → Reached text 0 least_job next
-reads_reached machines text r reads e = job_reached machines text r.job _ (reads_parsed machines text r reads e)
+    (machines : ℕ) (text : List ℕ) (r : Result (Reading Job) Unread) → Reads machines text r → {it : Reading Job} → r ≡ Ok it →
+    Reached text 0 least_job it.next
+reads_reached machines text r reads {it} e = job_reached machines text it.value it.next (reads_parsed machines text r reads e)

@@ -1,36 +1,13 @@
--- A place in a form as the code has it: the line that is due there, the form that goes on, and the figures that it has room for.
-use mathlib.Core.Path.{◌≡◌, refl, sym, ap, ◌∙◌, subst}
-use mathlib.Core.Bool.{true, false}
-use mathlib.Core.List.{List, ◌∷◌}
+-- A place in a form: the line that is due there, the form that goes on, and the figures that it has room for.
+use mathlib.Core.Path.{◌≡◌, sym, ap, ◌∙◌, subst}
+use mathlib.Core.Bool.{true}
 use Prim.Native.Nat.{ℕ, zero, suc, ◌-◌, ◌≤◌}
 use native.Mathlib.Omega.{arith}
-use Rattle.rules.proofs.Sequences.{clash}
-use Rattle.texts.specs.declared.forms.Stage.{Stage}
-use Rattle.texts.specs.declared.forms.Stage.TheVariants.{Job as AtJob, Over}
 use Rattle.lines.specs.declared.line.DueLine.{DueLine}
-use Rattle.lines.specs.Lines.{Due}
-use Rattle.texts.specs.Forms.{Form, done, ask, fills}
-use Rattle.lines.specs.Lines.{takes}
+use Rattle.lines.specs.Lines.{Due, takes}
 use Rattle.lines.specs.DueLines.{due_of}
-use Rattle.texts.specs.Stages.{form_at, stage_over}
-use Rattle.lines.specs.Parts.{most_scanned}
-use Rattle.texts.specs.Parts.{Asks, DueIs, AskNext, NextIs, AtMost, at_end, at_line}
-
--- a stage that is not over asks its line
-pub stage_asks :
-    (machines : ℕ) (stage : Stage) {r : DueLine} → stage_over stage ≡ false → DueIs stage r → Asks (form_at machines stage) r × (r.digits ≤ most_scanned)
-stage_asks machines (AtJob line) o d = (d.asks machines, d.digits)
-stage_asks machines Over o d = clash refl o
-
-pub stage_done : (machines : ℕ) (stage : Stage) → stage_over stage ≡ true → form_at machines stage ≡ done
-stage_done machines (AtJob line) o = clash o refl
-stage_done machines Over o = refl
-
--- one whose form takes a figure is not over
-pub stage_more : (machines : ℕ) (stage : Stage) (n : ℕ) (ns : List ℕ) → fills (form_at machines stage) (n ∷ ns) ≡ true → stage_over stage ≡ false
-unfolding fills
-stage_more machines (AtJob line) n ns e = refl
-stage_more machines Over n ns e = clash e refl
+use Rattle.texts.specs.Forms.{Form, ask}
+use Rattle.texts.specs.Parts.{DueIs, AskNext, NextIs, AtMost, at_end, at_line}
 
 -- what goes on for a figure, whatever line is said to be due
 pub goes_on : {form left : Form} {due : Due} {more : ℕ → Form} {figure : ℕ} → form ≡ ask due more → left ≡ more figure → NextIs form figure left
@@ -39,7 +16,7 @@ goes_on {due = due} {more = more} {figure = figure} f l other rest e =
     let follow : more ≡ rest = cc in
     l ∙ ap (λ m. m figure) follow
 
-pub ask_next : {form : Form} {machines n : ℕ} {r : DueLine} → 1 ≤ machines → Asks form r → takes (due_of r) n ≡ true → AskNext form machines n
+pub ask_next : {form : Form} {machines n : ℕ} {r : DueLine} → 1 ≤ machines → DueIs form r → takes (due_of r) n ≡ true → AskNext form machines n
 ask_next {n = n} {r = r} some a t =
     record {
       some_machine = some;
@@ -59,7 +36,7 @@ at_most_more {m = suc m} (at_line {due = due} f) h = at_line {n = m} {due = due}
 pub at_most_next :
     {n : ℕ} {form : Form} {due : Due} {more : ℕ → Form} → AtMost n form → form ≡ ask due more →
     (1 ≤ n) × ((k : ℕ) → takes due k ≡ true → AtMost (n - 1) (more k))
-at_most_next at_end e = absurd (let z : ◌≡◌ {A = ℕ} 0 1 = cc in omega arith)
+at_most_next at_end e = cc
 at_most_next {due = due} {more = more} (at_line {n = n} {due = asked} {more = follow} f) e =
     let d : asked ≡ due = cc in
     let m : follow ≡ more = cc in (

@@ -9,10 +9,12 @@ use lib.Dec.{eqb}
 use lib.ListN.{length, take, drop, length-append, length-drop, drop_of_length-le}
 use lib.Seq.{take-append_seam, drop-append_seam}
 use borrow.Author.Tests.{lt-ltb, le-ltb, eqb-true, eqb-false}
+use Rattle.std.proofs.Common.{Ok, Err}
 use Rattle.rules.proofs.Sequences.{by_test, by_less}
 use Rattle.lines.specs.Put.{Puts}
-use Rattle.texts.specs.Writer.{write_number, write_length, write_left, Writes}
-use Rattle.texts.specs.Parts.{unwritten_answer}
+use Rattle.texts.specs.declared.forms.Unwritten.{Unwritten}
+use Rattle.texts.specs.declared.forms.Unwritten.TheVariants.{Unwritable, NoRoom}
+use Rattle.texts.specs.Writer.{write_number, write_length, write_left, unwritten_number, Writes}
 use Rattle.texts.specs.Laws.{WriterLaws, WriterLawsHold}
 
 module _ (text buffer : List ℕ) where
@@ -45,8 +47,7 @@ module _ (text buffer : List ℕ) where
   length_refused number e = rw (write_length, e) refl
 
   -- where the text fits and was put in
-  pub fits_written : {new : List ℕ} {next : ℕ} → length text ≤ length buffer → Puts buffer 0 text new next →
-      Writes 0 text buffer new (record { number = 0; length = next })
+  pub fits_written : {new : List ℕ} {next : ℕ} → length text ≤ length buffer → Puts buffer 0 text new next → Writes 0 text buffer new (Ok next)
   fits_written h p =
       record {
         number_is = sym (number_fits h);
@@ -55,16 +56,24 @@ module _ (text buffer : List ℕ) where
       }
 
   -- nothing was put in: whatever was judged before, or too short a buffer
-  unwritten_by :
-      (before number : ℕ) → write_number before text buffer ≡ number → eqb number 0 ≡ false → Writes before text buffer buffer (unwritten_answer number)
-  unwritten_by before number e n =
-      record { number_is = sym e; length_is = rw e (sym (length_refused number n)); buffer_is = rw e (sym (left_refused number n)) }
+  unwritten_by : (before : ℕ) (u : Unwritten) → write_number before text buffer ≡ unwritten_number u → Writes before text buffer buffer (Err u)
+  unwritten_by before u e =
+      let n = refuses u in
+      record {
+        number_is = sym e;
+        length_is = rw e (sym (length_refused (unwritten_number u) n));
+        buffer_is = rw e (sym (left_refused (unwritten_number u) n));
+      }
+    where
+      refuses : (u : Unwritten) → eqb (unwritten_number u) 0 ≡ false
+      refuses Unwritable = refl
+      refuses NoRoom = refl
 
-  pub short_unwritten : length buffer < length text → Writes 0 text buffer buffer (unwritten_answer 21)
-  short_unwritten h = unwritten_by 0 21 (number_short h) refl
+  pub short_unwritten : length buffer < length text → Writes 0 text buffer buffer (Err NoRoom)
+  short_unwritten h = unwritten_by 0 NoRoom (number_short h)
 
-  pub judged_unwritten : (before : ℕ) → eqb before 0 ≡ false → Writes before text buffer buffer (unwritten_answer before)
-  judged_unwritten before e = unwritten_by before before (number_judged before e) e
+  pub judged_unwritten : Writes 20 text buffer buffer (Err Unwritable)
+  judged_unwritten = unwritten_by 20 Unwritable (number_judged 20 refl)
 
   -- the laws where the text fits, and where a number refuses
   laws_fit : length text ≤ length buffer → WriterLaws 0 text buffer 0

@@ -1,22 +1,22 @@
 -- A reader must believe this: what is shown of forms and of jobs, so that the definitions say what is meant. Document 01, "Job text"; document
 -- 02, request 1.
-use Rattle.std.specs.Prelude.{◌≡◌, Bool, true, false, ◌&&◌, List, [], ◌∷◌, ◌++◌, ℕ, ◌+◌, ◌*◌, ◌≤◌, ◌<◌, eqb, length, get_or, take, drop}
+use Rattle.std.specs.Prelude.{◌≡◌, Bool, true, false, ◌&&◌, List, [], ◌∷◌, ◌++◌, ℕ, ◌+◌, ◌*◌, ◌≤◌, ◌<◌, eqb, length, get_or, take, drop, Result, Ok}
 use Rattle.rules.specs.declared.Job.{Job}
 use Rattle.rules.specs.Words.{most_tasks, most_messages, most_machines, no_task, task_of}
 use Rattle.rules.specs.Sequences.{any_of}
 use Rattle.lines.specs.Figures.{line_feed}
-use Rattle.lines.specs.declared.line.Reading.TheVariants.{Read}
+use Rattle.lines.specs.declared.line.Reading.{Reading}
+use Rattle.lines.specs.declared.line.Unread.{Unread}
 use Rattle.lines.specs.Lines.{parsed, refused, Due, line}
-use Rattle.lines.specs.Readings.{number_of_reading, reading_place}
+use Rattle.lines.specs.Readings.{reading_said}
 use Rattle.lines.specs.Laws.{Stands}
 use Rattle.texts.specs.Forms.{Form, done, ask, read, written, fills, left}
 use Rattle.lines.specs.Lines.{takes}
 use Rattle.texts.specs.JobText.{job_form, task_said, message_said, message_of_zeros, head_size, task_size, message_size, messages_at, job_said}
 use Rattle.texts.specs.JobText.{job_figures, job_text, writable, written_job, blanked}
-use Rattle.texts.specs.declared.forms.WriterAnswer.{WriterAnswer}
-use Rattle.texts.specs.declared.job.JobRead.{JobRead}
+use Rattle.texts.specs.declared.forms.Unwritten.{Unwritten}
 use Rattle.texts.specs.Reader.{Reads}
-use Rattle.texts.specs.Writer.{write_number, write_length, write_left, WritesJob}
+use Rattle.texts.specs.Writer.{write_number, write_length, write_left, number_written, length_written, WritesJob}
 
 -- What is read of a form fills it, and written again is the bytes that were read.
 abbrev pub ReadIsWritten : Type 0
@@ -112,27 +112,25 @@ ReadsBackAlways =
 
 -- Document 02, request 1: the writer and the reader, by their contracts. Reading what was written returns the same counts and listed figures, whatever bytes
 -- the buffer has after them; writing a job read with no bytes left over returns those bytes.
-pub record ReadsBack (machines : ℕ) (j : Job) (r : WriterAnswer) (back : JobRead) : Type 0 where
-  pub same_job : back.job ≡ blanked machines j
-  pub was_read : number_of_reading back.reading ≡ 0
-  pub next_is : reading_place back.reading ≡ r.length
+abbrev pub ReadsBack : (machines : ℕ) → Job → Result ℕ Unwritten → Result (Reading Job) Unread → Type 0
+ReadsBack machines j r back = reading_said back ≡ parsed (blanked machines j) (length_written r)
 
 abbrev pub WrittenReadsBack : Type 0
 WrittenReadsBack =
-    (machines : ℕ) (j : Job) → Sized machines j → (old new : List ℕ) (r : WriterAnswer) → WritesJob machines j old new r → r.number ≡ 0 →
-    (back : JobRead) → Reads machines new back → ReadsBack machines j r back
+    (machines : ℕ) (j : Job) → Sized machines j → (old new : List ℕ) (r : Result ℕ Unwritten) → WritesJob machines j old new r → number_written r ≡ 0 →
+    (back : Result (Reading Job) Unread) → Reads machines new back → ReadsBack machines j r back
 
 pub record Rewritten (machines : ℕ) (text : List ℕ) (j : Job) : Type 0 where
   pub is_writable : writable machines j ≡ true
   pub same_text : written_job machines j ≡ text
   pub same_bytes :
-      (old new : List ℕ) (r : WriterAnswer) → WritesJob machines j old new r → length text ≤ length old →
-      (r.number ≡ 0) × (r.length ≡ length text) × (new ≡ text ++ drop (length text) old)
+      (old new : List ℕ) (r : Result ℕ Unwritten) → WritesJob machines j old new r → length text ≤ length old →
+      (r ≡ Ok (length text)) × (new ≡ text ++ drop (length text) old)
 
 abbrev pub ReadWholeWritten : Type 0
 ReadWholeWritten =
-    (machines : ℕ) (text : List ℕ) (it : JobRead) (count : ℕ) → Reads machines text it → it.reading ≡ Read count (length text) →
-    Rewritten machines text it.job
+    (machines : ℕ) (text : List ℕ) (it : Job) (r : Result (Reading Job) Unread) → Reads machines text r →
+    r ≡ Ok (record { value = it; next = length text }) → Rewritten machines text it
 
 -- A job's own figures fill the form exactly if it is writable: 20 is the same for a job and for its row of figures.
 abbrev pub FillsIfWritable : Type 0

@@ -15,11 +15,6 @@ pub record MachineCount (machines : ℕ) : Type 0 where
   pub some_machine : 1 ≤ machines
   pub at_most : machines ≤ most_machines
 
--- the first so many figures of a row, for a table of so many machines
-pub record AskFigures (machines : ℕ) (row : List ℕ) (count : ℕ) : Type 0 where
-  pub machine_count : MachineCount machines
-  pub within : count ≤ length row
-
 pub record AskTask (machines index : ℕ) : Type 0 where
   pub machines_at_most : machines ≤ most_machines
   pub listed : index < most_tasks
@@ -55,9 +50,11 @@ pub record TaskPut (machines : ℕ) (task : Task) (old : List ℕ) (at : ℕ) (n
   pub puts : Puts old at (task_figures machines task) new next
   pub runs_long : length task.runs ≡ most_machines
 
--- a job's figures, from the row's start on; its listed tasks have all their run times
+-- a job's figures, from the row's start on; its arrays have their lengths, and its listed tasks have all their run times
 pub record JobPut (machines : ℕ) (j : Job) (old new : List ℕ) (next : ℕ) : Type 0 where
   pub puts : Puts old 0 (job_figures machines j) new next
+  pub tasks_long : length j.tasks ≡ most_tasks
+  pub messages_long : length j.messages ≡ most_messages
   pub runs_long : (i : ℕ) → i < j.taskcount → length (get_or j.tasks i no_task).runs ≡ most_machines
 
 -- the messages of such a job, from a place on

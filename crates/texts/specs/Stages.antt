@@ -1,13 +1,11 @@
--- Between functions: a place in a form as the code has it, and the form that is left there.
-use Rattle.std.specs.Prelude.{Bool, true, false, ℕ, suc}
+-- Between functions: a place in a job text as the code has it, and the form that is left there.
+use Rattle.std.specs.Prelude.{◌≡◌, refl, false, [], ℕ, suc}
 use Rattle.rules.specs.Words.{most_tasks}
-use Rattle.texts.specs.declared.forms.Stage.{Stage}
-use Rattle.texts.specs.declared.forms.Stage.TheVariants.{Job as AtJob, Over}
 use Rattle.texts.specs.declared.job_lines.JobLine.{JobLine}
 use Rattle.texts.specs.declared.job_lines.JobLine.TheVariants.{Number, Scheduling, Tasks, Deadline, Dispatch, Run, Messages, From, To, Volume}
 use Rattle.lines.specs.Figures.{bytes}
 use Rattle.lines.specs.Lines.{ranged}
-use Rattle.texts.specs.Forms.{Form, done, ask}
+use Rattle.texts.specs.Forms.{Form, ask, fills}
 use Rattle.texts.specs.JobText.{with_line, run_lines, tasks_lines, messages_lines, sent_lines, job_form}
 
 -- the form that is left at a line of a job text
@@ -23,10 +21,8 @@ job_at machines (From left) = messages_lines (suc left)
 job_at machines (To left) = with_line (bytes "to=") (with_line (bytes "volume=") (messages_lines left))
 job_at machines (Volume left) = with_line (bytes "volume=") (messages_lines left)
 
-abbrev pub form_at : (machines : ℕ) → Stage → Form
-form_at machines (AtJob line) = job_at machines line
-form_at machines Over = done
-
-abbrev pub stage_over : Stage → Bool
-stage_over (AtJob line) = false
-stage_over Over = true
+-- a line is due at each place
+pub line_due : (machines : ℕ) (line : JobLine) → fills (job_at machines line) [] ≡ false
+unfolding fills run_lines tasks_lines messages_lines
+line_due machines Number = refl
+line_due machines _ = refl

@@ -1,178 +1,141 @@
-// The engine: a place in a form is a stage, which says what line is due and, by the figure there, what stage comes next.
-ghost use Rattle.std.specs.Prelude.{◌≡◌, ◌≤◌, length, take};
-ghost use Rattle.texts.specs.Forms.{fills, written};
-ghost use Rattle.texts.specs.Writer.{Writes};
+// The engine that reads, tests, measures and writes every text: a text is a form, and a place in a form says what line is due and, by the figure there, what place
+// comes next.
+ghost use Rattle.std.specs.Prelude.{◌≡◌, false, [], ◌≤◌, ℕ, length};
 ghost use Rattle.lines.specs.Put.{Puts};
-ghost use Rattle.texts.specs.Stages.{form_at, stage_over};
-ghost use Rattle.texts.specs.Parts.{DueIs, AskAfter, AfterIs, AskRead, FormRead, AskWalk, AskWrite, unwritten_answer};
+ghost use Rattle.texts.specs.Forms.{Form, fills, written};
+ghost use Rattle.texts.specs.Writer.{Writes, unwritten_number};
+ghost use Rattle.texts.specs.Parts.{DueIs, AskNext, NextIs, form_left, AskRead, FormRead, AskWalk, AskWrite};
 
-use crate::job_lines::{JobLine, job_after, job_due};
 use lines::figures::width;
-use lines::keys::{Key, key_length, put_line};
-use lines::line::{DueLine, Reading, is_unfit, read_line};
+use lines::keys::put_line;
+use lines::line::{DueLine, Reading, Unread, read_line};
 
-#[derive(Clone, Copy)]
-pub enum Stage {
-    Job(JobLine),
-    Over,
+// A place in a form.
+pub trait FormLine: Copy {
+    // The form that is left there, for a table of so many machines.
+    ghost form: { (machines : ℕ) → Self → Form };
+
+    // The line that is due.
+    fn due(self) -> DueLine
+        ensures { (machines : ℕ) → DueIs (form machines self) result };
+
+    // The place after it, by its figure, if a line is left.
+    fn after(self, machines: u64, figure: u64) -> Option<Self>
+        requires { AskNext (form machines self) machines figure }
+        ensures { NextIs (form machines self) figure (form_left (form machines) result) };
+
+    // At each place a line is due.
+    ghost due_there: { (machines : ℕ) (place : Self) → fills (form machines place) [] ≡ false };
 }
 
-// Nothing more is due.
-fn is_over(stage: Stage) -> bool
-    ensures { result ≡ stage_over stage }
+// Reads a form from the text's start on into a lent row, and answers how many figures it has.
+pub fn read_form<L: FormLine>(
+    text: &[u8],
+    first: L,
+    machines: u64,
+    row: &mut [u64],
+) -> Result<Reading<u64>, Unread>
+    requires { AskRead (L.form machines first) machines row.old }
+    ensures { FormRead (L.form machines first) text.now row.old row.new result }
 {
-    match stage {
-        Stage::Job(_) => false,
-        Stage::Over => true,
-    }
-}
-
-// The line that is due at a stage; where nothing is, any.
-fn due_at(stage: Stage) -> DueLine
-    ensures { DueIs stage result }
-{
-    match stage {
-        Stage::Job(line) => job_due(line),
-        Stage::Over => DueLine {
-            key: Key::Job,
-            digits: 0,
-            least: 0,
-            most: 0,
-            except: 0,
-            refuses: 0,
-        },
-    }
-}
-
-// The stage after a line whose figure was taken.
-fn stage_after(stage: Stage, machines: u64, figure: u64) -> Stage
-    requires { AskAfter stage machines figure }
-    ensures { AfterIs stage machines figure result }
-{
-    match stage {
-        Stage::Job(line) => job_after(line, machines, figure),
-        Stage::Over => Stage::Over,
-    }
-}
-
-// Reads the form of a stage from the text's start on into a lent row, and answers how many figures it has.
-pub fn read_form(text: &[u8], first: Stage, machines: u64, row: &mut [u64]) -> Reading
-    requires { AskRead first machines row.old }
-    ensures { FormRead (form_at machines first) text.now row.old row.new result }
-{
-    let mut stage = first;
+    let mut place = Some(first);
     let mut at = 0;
     let mut count = 0;
-    while !is_over(stage) {
-        let due = due_at(stage);
-        let line = read_line(text, at, due);
-        let Reading::Read(figure, next) = line else {
+    while let Some(here) = place {
+        let line = read_line(text, at, here.due());
+        let Ok(Reading { value, next }) = line else {
             return line;
         };
-        row[count] = figure;
+        row[count] = value;
         count += 1;
         at = next;
-        stage = stage_after(stage, machines, figure);
+        place = here.after(machines, value);
     }
-    Reading::Read(count as u64, at)
+    Ok(Reading {
+        value: count as u64,
+        next: at,
+    })
 }
 
-// Whether the first figures of a row fill the form of a stage.
-pub fn fills_form(row: &[u64], count: usize, first: Stage, machines: u64) -> bool
-    requires { AskWalk first machines row.now count }
-    ensures { result ≡ fills (form_at machines first) (take count row.now) }
+// Whether the figures fill a form.
+pub fn fills_form<L: FormLine>(figures: &[u64], first: L, machines: u64) -> bool
+    requires { AskWalk machines }
+    ensures { result ≡ fills (L.form machines first) figures.now }
 {
-    let mut stage = first;
-    let mut i = 0;
-    while i < count {
-        if is_over(stage) {
+    let mut place = Some(first);
+    for figure in figures {
+        let Some(here) = place else {
+            return false;
+        };
+        let due = here.due();
+        if due.is_unfit(*figure) || due.digits < width(*figure) {
             return false;
         }
-        let due = due_at(stage);
-        let figure = row[i];
-        if is_unfit(due, figure) {
-            return false;
-        }
-        if due.digits < width(figure) {
-            return false;
-        }
-        stage = stage_after(stage, machines, figure);
-        i += 1;
+        place = here.after(machines, *figure);
     }
-    is_over(stage)
+    place.is_none()
 }
 
 // How many bytes the lines of such figures have.
-pub fn form_length(row: &[u64], count: usize, first: Stage, machines: u64) -> usize
-    requires { AskWrite first machines row.now count }
-    ensures { result ≡ length (written (form_at machines first) (take count row.now)) }
+pub fn form_length<L: FormLine>(figures: &[u64], first: L, machines: u64) -> usize
+    requires { AskWrite (L.form machines first) machines figures.now }
+    ensures { result ≡ length (written (L.form machines first) figures.now) }
 {
-    let mut stage = first;
+    let mut place = Some(first);
     let mut length = 0;
-    let mut i = 0;
-    while i < count {
-        let due = due_at(stage);
-        let key = due.key;
-        let figure = row[i];
-        length += key_length(key) + width(figure) + 1;
-        stage = stage_after(stage, machines, figure);
-        i += 1;
+    for figure in figures {
+        let Some(here) = place else { unreachable!() };
+        length += here.due().key.text().len() + width(*figure) + 1;
+        place = here.after(machines, *figure);
     }
     length
 }
 
 // Writes those lines from the output's start on.
-fn put_form(row: &[u64], count: usize, first: Stage, machines: u64, output: &mut [u8]) -> usize
-    requires { AskWrite first machines row.now count × (length (written (form_at machines first) (take count row.now)) ≤ length output.old) }
-    ensures { Puts output.old 0 (written (form_at machines first) (take count row.now)) output.new result }
+fn put_form<L: FormLine>(figures: &[u64], first: L, machines: u64, output: &mut [u8]) -> usize
+    requires figures { AskWrite (L.form machines first) machines figures.now }
+    requires room { length (written (L.form machines first) figures.now) ≤ length output.old }
+    ensures { Puts output.old 0 (written (L.form machines first) figures.now) output.new result }
 {
-    let mut stage = first;
+    let mut place = Some(first);
     let mut at = 0;
-    let mut i = 0;
-    while i < count {
-        let due = due_at(stage);
-        let key = due.key;
-        let figure = row[i];
-        at = put_line(output, at, key, figure);
-        stage = stage_after(stage, machines, figure);
-        i += 1;
+    for figure in figures {
+        let Some(here) = place else { unreachable!() };
+        at = put_line(output, at, here.due().key, *figure);
+        place = here.after(machines, *figure);
     }
     at
 }
 
-// What a writer of texts answers: 0 and the length of the text, or the number of a refusal and 0.
-#[derive(Clone, Copy)]
-pub struct WriterAnswer {
-    pub number: u64,
-    pub length: usize,
+// Why a text is not written, by its number. Then no byte is.
+#[derive(Clone, Copy, PartialEq, Eq)]
+pub enum Unwritten {
+    // A count is out of range, or a figure is too long; this is judged first.
+    Unwritable = 20,
+    // The buffer is too short.
+    NoRoom = 21,
 }
 
-pub fn unwritten(number: u64) -> WriterAnswer
-    ensures { result ≡ unwritten_answer number }
-{
-    WriterAnswer {
-        number: number,
-        length: 0,
+impl Unwritten {
+    pub fn number(self) -> u64
+        ensures { result ≡ unwritten_number self }
+    {
+        self as u64
     }
 }
 
-// Writes those lines if the output has room for them. 21: it has not, and stays as it was.
-pub fn write_form(
-    row: &[u64],
-    count: usize,
-    first: Stage,
+// Writes those lines if the output has room for them, and answers how many bytes they have.
+pub fn write_form<L: FormLine>(
+    figures: &[u64],
+    first: L,
     machines: u64,
     output: &mut [u8],
-) -> WriterAnswer
-    requires { AskWrite first machines row.now count }
-    ensures { Writes 0 (written (form_at machines first) (take count row.now)) output.old output.new result }
+) -> Result<usize, Unwritten>
+    requires { AskWrite (L.form machines first) machines figures.now }
+    ensures { Writes 0 (written (L.form machines first) figures.now) output.old output.new result }
 {
-    let length = form_length(row, count, first, machines);
-    if output.len() < length {
-        return unwritten(21);
+    if output.len() < form_length(figures, first, machines) {
+        return Err(Unwritten::NoRoom);
     }
-    WriterAnswer {
-        number: 0,
-        length: put_form(row, count, first, machines, output),
-    }
+    Ok(put_form(figures, first, machines, output))
 }

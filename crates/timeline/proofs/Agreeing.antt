@@ -12,7 +12,7 @@ use Rattle.rules.specs.Placing.{spans_on, least_free}
 use Rattle.rules.specs.Laws.{Free, IsLeast}
 use Rattle.rules.proofs.Sequences.{by_less, keep_append, mem_keep, map_mem}
 use Rattle.rules.proofs.LeastTick.{least_is_least, least_unique, least_at_most}
-use Rattle.timeline.specs.declared.beside.Sought.{Sought}
+use Rattle.timeline.specs.declared.line.Sought.{Sought}
 use Rattle.timeline.specs.Timeline.{Known, Drawable, Drawn, AskLeast, LeastIs, tick_limit}
 use Rattle.timeline.specs.Beside.{AskBeside, BesideIs}
 use Rattle.timeline.proofs.Drawing.{known_below, drawn_asks}
@@ -132,32 +132,32 @@ module _
     {begins ends : List ℕ} {count : ℕ} {other_begins other_ends : List ℕ} {others : ℕ} {sought : Sought}
     (ask : AskBeside begins ends count other_begins other_ends others sought)
   where
-    code_below : sought.code < resource_bound
+    code_below : sought.resource < resource_bound
     code_below = let same = ask.code_is in omega (arith, known_below ask.known)
 
     -- each may be asked
-    pub asks_own : (from : ℕ) → from ≤ tick_limit → AskLeast begins ends count sought.code from sought.len
+    pub asks_own : (from : ℕ) → from ≤ tick_limit → AskLeast begins ends count sought.resource from sought.len
     asks_own from early = drawn_asks ask.held _ _ _ ask.drawn _ from _ code_below early ask.len_at_most
 
-    pub asks_other : (from : ℕ) → from ≤ tick_limit → AskLeast other_begins other_ends others sought.code from sought.len
+    pub asks_other : (from : ℕ) → from ≤ tick_limit → AskLeast other_begins other_ends others sought.resource from sought.len
     asks_other from early = drawn_asks ask.beside _ _ _ ask.drawn_beside _ from _ code_below early ask.len_at_most
 
     -- and answers a tick by the last
-    pub own_at_most : (from r : ℕ) → from ≤ tick_limit → LeastIs begins ends count sought.code from sought.len r → r ≤ tick_limit
+    pub own_at_most : (from r : ℕ) → from ≤ tick_limit → LeastIs begins ends count sought.resource from sought.len r → r ≤ tick_limit
     own_at_most from r early answer =
         let is = answer.is ask.held ask.on ask.drawn ask.known ask.code_is ask.some in
         omega (arith, drawable_found ask.held ask.drawn.drawable ask.on from sought.len early)
 
     pub other_at_most :
-        (from r : ℕ) → from ≤ tick_limit → LeastIs other_begins other_ends others sought.code from sought.len r → r ≤ tick_limit
+        (from r : ℕ) → from ≤ tick_limit → LeastIs other_begins other_ends others sought.resource from sought.len r → r ≤ tick_limit
     other_at_most from r early answer =
         let is = answer.is ask.beside ask.on ask.drawn_beside ask.known ask.code_is ask.some in
         omega (arith, drawable_found ask.beside ask.drawn_beside.drawable ask.on from sought.len early)
 
     pub turned_first :
-        (found again : ℕ) → LeastIs begins ends count sought.code sought.from sought.len found →
-        LeastIs other_begins other_ends others sought.code found sought.len again →
-        Turned begins ends count other_begins other_ends others sought.code sought.len found found again
+        (found again : ℕ) → LeastIs begins ends count sought.resource sought.from sought.len found →
+        LeastIs other_begins other_ends others sought.resource found sought.len again →
+        Turned begins ends count other_begins other_ends others sought.resource sought.len found found again
     turned_first found again own other =
         let low = own_at_most sought.from found ask.from_at_most own in
         record {
@@ -178,10 +178,10 @@ module _
 
     pub turned_more :
         (start found again found' again' : ℕ) →
-        Turned begins ends count other_begins other_ends others sought.code sought.len start found again → found < again →
-        LeastIs begins ends count sought.code again sought.len found' →
-        LeastIs other_begins other_ends others sought.code found' sought.len again' →
-        Turned begins ends count other_begins other_ends others sought.code sought.len start found' again'
+        Turned begins ends count other_begins other_ends others sought.resource sought.len start found again → found < again →
+        LeastIs begins ends count sought.resource again sought.len found' →
+        LeastIs other_begins other_ends others sought.resource found' sought.len again' →
+        Turned begins ends count other_begins other_ends others sought.resource sought.len start found' again'
     turned_more start found again found' again' turn less own other =
         let low = own_at_most again found' turn.again_at_most own in
         record {
@@ -205,13 +205,13 @@ module _
         }
 
     -- each turn finds a later tick
-    pub turned_later : (again found' : ℕ) → LeastIs begins ends count sought.code again sought.len found' → again ≤ found'
+    pub turned_later : (again found' : ℕ) → LeastIs begins ends count sought.resource again sought.len found' → again ≤ found'
     turned_later again found' own =
         (answer_least own ask.held ask.on ask.drawn ask.known ask.code_is ask.some).not_before
 
     pub turned_end :
-        (start found again : ℕ) → LeastIs begins ends count sought.code sought.from sought.len start →
-        Turned begins ends count other_begins other_ends others sought.code sought.len start found again → again ≤ found →
+        (start found again : ℕ) → LeastIs begins ends count sought.resource sought.from sought.len start →
+        Turned begins ends count other_begins other_ends others sought.resource sought.len start found again → again ≤ found →
         BesideIs begins ends count other_begins other_ends others sought found
     turned_end start found again first turn most = record {
       is =

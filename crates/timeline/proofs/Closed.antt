@@ -1,73 +1,61 @@
--- A value taken out of a column: the loop that closes the gap.
-use mathlib.Core.Path.{◌≡◌, refl, ◌∙◌}
-use mathlib.Core.List.{List, ◌∷◌, append_assoc}
-use Prim.Native.Nat.{ℕ, suc, ◌+◌, ◌-◌, ◌≤◌, ◌<◌}
+-- A value taken out of a column at an index: the part from there on turned by one, and its last place blank.
+use mathlib.Core.Path.{◌≡◌, refl, sym, ap, ◌∙◌}
+use mathlib.Core.List.{List, [], ◌∷◌, ◌++◌, append_assoc}
+use Prim.Native.Nat.{ℕ, ◌+◌, ◌-◌}
 use native.Mathlib.Omega.{arith}
-use lib.ListN.{length, get_or, take, drop, set, length-set}
-use lib.Seq.{get_or-set_same, get_or-set_other, set_split, take-add}
-use Rattle.rules.proofs.Sequences.{by_less}
+use native.Mathlib.Numerals.{add-one}
+use lib.ListN.{length, take, drop, set, length-append, length-take, length-drop, length-set}
+use lib.Seq.{length-take-le, take-nil, set_at, drop-drop}
+use borrow.Rule.Slice.PartMut.{mid_of, put_mid, same_len_mid}
 use Rattle.timeline.specs.RowLine.{AskRemoveAt, RemovedAt}
-use Rattle.timeline.proofs.Parts.{part_same, rest_same}
 
--- From the index up to i each has what stood behind it, and all else is as before.
-pub record Closed (old : List ℕ) (count at : ℕ) (new : List ℕ) (i : ℕ) : Type 0 where
-  pub not_before : at ≤ i
-  pub within : i < count
-  pub long : length new ≡ length old
-  pub before : (k : ℕ) → k < at → get_or new k 0 ≡ get_or old k 0
-  pub moved : (k : ℕ) → at ≤ k → k < i → get_or new k 0 ≡ get_or old (k + 1) 0
-  pub after : (k : ℕ) → i ≤ k → get_or new k 0 ≡ get_or old k 0
+-- those behind the first of so many and one
+behind_first : {A : Type 0} (l : List A) (n : ℕ) → drop 1 (take (n + 1) l) ≡ take n (drop 1 l)
+behind_first [] n = rw (take-nil (n + 1), take-nil n) refl
+behind_first (x ∷ l) n = rw add-one refl
 
-module _ {old : List ℕ} {count at : ℕ} (asked : AskRemoveAt old count at) where
-  pub closed_none : Closed old count at old at
-  closed_none = record {
-    not_before = omega arith;
-    within = asked.within;
-    long = refl;
-    before = λ k h. refl;
-    moved = λ k low high. absurd (omega arith);
-    after = λ k h. refl;
-  }
+set_last : {A : Type 0} (p ys q : List A) (n : ℕ) (value : A) → length p ≡ n → length ys ≡ 1 → set (p ++ (ys ++ q)) n value ≡ p ++ (value ∷ q)
+set_last p [] q n value long one = absurd (omega arith)
+set_last p (y ∷ []) q n value long one = set_at p y q value n long
+set_last p (y ∷ z ∷ ys) q n value long one = absurd (omega arith)
 
-  module _ {new : List ℕ} {i : ℕ} (closed : Closed old count at new i) where
-    pub closed_more : i < count - 1 → Closed old count at (set new i (get_or new (i + 1) 0)) (i + 1)
-    closed_more more =
-        let value = get_or new (i + 1) 0 in
-        let long = closed.long in
-        record {
-          not_before = omega arith;
-          within = omega arith;
-          long = length-set new i value ∙ long;
-          before = λ k h. get_or-set_other new i k value 0 (λ e. omega arith) ∙ closed.before k h;
-          moved =
-              λ k low high.
-              by_less
-              k
-              i
-              (λ less. get_or-set_other new i k value 0 (λ e. omega arith) ∙ closed.moved k low less)
-              (λ most.
-              let same : k ≡ i = omega arith in
-              rw same (get_or-set_same new i value 0 (omega arith) ∙ closed.after (i + 1) (omega arith)));
-          after = λ k h. get_or-set_other new i k value 0 (λ e. omega arith) ∙ closed.after k (omega arith);
-        }
+module _ {A : Type 0} {old : List A} {count at : ℕ} (asked : AskRemoveAt old count at) (blank : A) where
+  abbrev part : List A
+  part = mid_of at (count - at) old
 
-    pub closed_all : count - 1 ≤ i → RemovedAt old count at (set new (count - 1) 0)
-    closed_all done =
-        let long = closed.long in
-        let rest = count - (at + 1) in
-        let parts : count - 1 ≡ at + rest = omega arith in
-        let next : suc (at + rest) ≡ count = omega arith in
-        let front : take at new ≡ take at old = part_same new old 0 0 at (omega arith) (omega arith) (λ k h. closed.before (0 + k) (omega arith)) in
-        let middle : take rest (drop at new) ≡ take rest (drop (at + 1) old) =
-        part_same new old at (at + 1) rest (omega arith) (omega arith)
-        (λ k h. let same : (at + k) + 1 ≡ (at + 1) + k = omega arith in rw same at (closed.moved (at + k) (omega arith) (omega arith)))
-        in
-        let beyond : drop count new ≡ drop count old = rest_same new old count long (λ k h. closed.after k (omega arith)) in
-        record {
-          new_is =
-              set_split new (count - 1) 0 (omega arith)
-              ∙ rw
-              (parts, next, take-add at rest new, front, middle, beyond)
-              (append_assoc (take at old) (take rest (drop (at + 1) old)) (0 ∷ drop count old));
-          long = length-set new (count - 1) 0 ∙ long;
-        }
+  part_long : length part ≡ count - at
+  part_long = length-take-le (count - at) (drop at old) (simp length-drop (omega arith))
+
+  -- turned by one, its first stands last, and a blank is written over it
+  pub removed :
+      {turned : List A} → turned ≡ drop 1 part ++ take 1 part →
+      RemovedAt old count at blank (set (put_mid at (count - at) old turned) (count - 1) blank)
+  removed {turned} is =
+      let rest = count - (at + 1) in
+      let more : count - at ≡ rest + 1 = omega arith in
+      let past : at + (count - at) ≡ count = omega arith in
+      let front = take at old in
+      let front_long : length front ≡ at = length-take-le at old (omega arith) in
+      let moved : drop 1 part ≡ take rest (drop (at + 1) old) =
+      rw more (behind_first (drop at old) rest ∙ ap (take rest) (drop-drop 1 at old))
+      in
+      let last : length (take 1 part) ≡ 1 = simp length-take (omega (arith, length-drop at old)) in
+      let long : length (front ++ take rest (drop (at + 1) old)) ≡ count - 1 =
+      simp (length-append, length-take, length-drop) (omega (arith, length-drop (at + 1) old))
+      in
+      let turned_long : length turned ≡ length part =
+      ap length is ∙ simp (length-append, length-take, length-drop) (omega (arith, part_long, length-drop at old))
+      in
+      record {
+        new_is =
+            rw
+            (is, moved, drop-drop (count - at) at old, past)
+            (ap
+            (λ l. set l (count - 1) blank)
+            (ap (λ l. front ++ l) (append_assoc (take rest (drop (at + 1) old)) (take 1 part) (drop count old))
+            ∙ sym (append_assoc front (take rest (drop (at + 1) old)) (take 1 part ++ drop count old)))
+            ∙ set_last (front ++ take rest (drop (at + 1) old)) (take 1 part) (drop count old) (count - 1) blank long last
+            ∙ append_assoc front (take rest (drop (at + 1) old)) (blank ∷ drop count old));
+        long =
+            length-set (put_mid at (count - at) old turned) (count - 1) blank ∙ same_len_mid at (count - at) old turned turned_long;
+      }

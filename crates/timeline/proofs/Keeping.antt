@@ -15,7 +15,7 @@ use Rattle.rules.specs.Placing.{costs}
 use Rattle.rules.proofs.Sequences.{by_test, mem_keep}
 use Rattle.rules.proofs.Pairs.{Pairwise, end, more}
 use Rattle.timeline.specs.RowLine.{row_begin, insert_row, line_onto, line_of}
-use Rattle.timeline.proofs.Line.{Ranged, insert_ranged}
+use Rattle.timeline.proofs.RowLines.{Ranged, insert_ranged}
 
 -- each row begins no later than those behind it
 abbrev Ascends : List Row → Type 0

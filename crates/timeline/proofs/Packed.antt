@@ -1,25 +1,27 @@
--- The pass that packs: of the first i entries those that stay stand at the front, and what those that leave have cost is added up.
+-- The pass that packs: of the first i entries those that stay stand at the front. And what is left when blanks stand behind them: the column of the rows
+-- that stay.
 use mathlib.Core.Path.{◌≡◌, refl, sym, ap, ◌∙◌}
 use mathlib.Core.Bool.{Bool, true, false, not}
-use mathlib.Core.List.{List, [], ◌∷◌, ◌++◌, append-nil}
-use Prim.Native.Nat.{ℕ, zero, suc, ◌+◌, ◌*◌, ◌≤◌, ◌<◌}
+use mathlib.Core.List.{List, [], ◌∷◌, ◌++◌, map, append-nil}
+use Prim.Native.Nat.{ℕ, zero, suc, ◌+◌, ◌≤◌, ◌<◌}
 use native.Mathlib.Omega.{arith}
 use native.Mathlib.Numerals.{add-one}
-use lib.ListN.{length, get_or, set, length-append, get_or-append}
-use lib.Seq.{get_or_at}
-use Rattle.rules.specs.Sequences.{keep, cons_if, sum_of, numbers}
-use Rattle.rules.specs.Bounds.{largest_cost}
-use Rattle.rules.proofs.Sequences.{by_less, keep_append, keep_all, keep_none, length_keep, length_numbers, numbers_more, mem_numbers, sum_append}
-use Rattle.timeline.specs.declared.notes.Note.{Note}
-use Rattle.timeline.specs.declared.removal.Left.{Left}
-use Rattle.timeline.specs.Notes.{nth_note, AskNote, NotePut}
-use Rattle.timeline.specs.TakenOut.{AskTakeOut}
-use Rattle.timeline.specs.Packing.{going, staying, PackedIn, PackedIs, AskClear}
-use Rattle.timeline.proofs.Entries.{Written, figure_written, note_written}
+use lib.ListN.{length, get_or, set, length-append, length-map, length-set, get_or-append, get_or-eq_default}
+use lib.Seq.{get_or_at, get_or-set_same, get_or-set_other}
+use Rattle.std.proofs.lemmas.List.{get_or-map}
+use Rattle.rules.specs.declared.Row.{Row}
+use Rattle.rules.specs.Sequences.{keep, cons_if, numbers}
+use Rattle.rules.specs.Words.{row_limit}
+use Rattle.rules.specs.Placing.{no_row}
+use Rattle.rules.proofs.Sequences.{by_less, keep_append, keep_all, length_keep, length_numbers, numbers_more, mem_numbers}
+use Rattle.timeline.specs.RowLine.{spans_room, column, Says}
+use Rattle.timeline.specs.TakenOut.{AskKeep, KeptIs, left_of}
+use Rattle.timeline.specs.Packing.{staying, PackedIs, AskClear, ClearedIs}
+use Rattle.timeline.proofs.ColumnLaws.{column_long, column_past, column_is}
 
 -- Indices.
 
-keep_next : (p : ℕ → Bool) (i : ℕ) → keep p (numbers 0 (i + 1)) ≡ keep p (numbers 0 i) ++ cons_if (p i) i []
+pub keep_next : (p : ℕ → Bool) (i : ℕ) → keep p (numbers 0 (i + 1)) ≡ keep p (numbers 0 i) ++ cons_if (p i) i []
 keep_next p i =
     let same : 0 + i ≡ i = omega arith in
     ap (λ n. keep p (numbers 0 n)) (add-one i)
@@ -43,174 +45,162 @@ module _ (leaves : List Bool) where
     stay_same e =
         keep_next (λ k. not (get_or leaves k false)) i ∙ ap (λ b. staying leaves i ++ cons_if (not b) i []) e ∙ append-nil (staying leaves i)
 
-    go_more : get_or leaves i false ≡ true → going leaves (i + 1) ≡ going leaves i ++ (i ∷ [])
-    go_more e = keep_next (λ k. get_or leaves k false) i ∙ ap (λ b. going leaves i ++ cons_if b i []) e
+  stay_all : (from : ℕ) → ((i : ℕ) → i < from → get_or leaves i false ≡ false) → staying leaves from ≡ numbers 0 from
+  stay_all from none =
+      keep_all (λ k. not (get_or leaves k false)) (numbers 0 from) (λ k m. let within = mem_numbers 0 from m in ap not (none k (omega arith)))
 
-    go_same : get_or leaves i false ≡ false → going leaves (i + 1) ≡ going leaves i
-    go_same e = keep_next (λ k. get_or leaves k false) i ∙ ap (λ b. going leaves i ++ cons_if b i []) e ∙ append-nil (going leaves i)
+-- The pass that packs.
 
-  module _ (from : ℕ) (none : (i : ℕ) → i < from → get_or leaves i false ≡ false) where
-    stay_all : staying leaves from ≡ numbers 0 from
-    stay_all = keep_all (λ k. not (get_or leaves k false)) (numbers 0 from) (λ k m. let within = mem_numbers 0 from m in ap not (none k (omega arith)))
-
-    go_none : going leaves from ≡ []
-    go_none = keep_none (λ k. get_or leaves k false) (numbers 0 from) (λ k m. let within = mem_numbers 0 from m in none k (omega arith))
-
--- One column.
-
-module _ {A : Type 0} (entry : List ℕ → ℕ → A) (leaves : List Bool) where
-  packed_none : (old : List ℕ) (from : ℕ) → ((i : ℕ) → i < from → get_or leaves i false ≡ false) → PackedIn entry leaves from old old
+module _ {A : Type 0} {leaves : List Bool} where
+  pub packed_none : (old : List A) (from : ℕ) → ((i : ℕ) → i < from → get_or leaves i false ≡ false) → PackedIs old leaves from old from
   packed_none old from none = record {
     long = refl;
     front =
-        λ k h.
+        λ k d h.
         let less : k < from = omega (arith, staying_few leaves from) in
         let here : get_or (numbers 0 from) k 0 ≡ k = omega (arith, numbers_at 0 from k less) in
-        ap (entry old) (sym (ap (λ l. get_or l k 0) (stay_all leaves from none) ∙ here));
-    after = λ k h. refl;
+        ap (λ n. get_or old n d) (sym (ap (λ l. get_or l k 0) (stay_all leaves from none) ∙ here));
+    after = λ k d h. refl;
+    count_is = sym (ap length (stay_all leaves from none) ∙ length_numbers 0 from);
   }
 
-  module _ {old new : List ℕ} {i : ℕ} (packed : PackedIn entry leaves i old new) where
-    packed_goes : get_or leaves i false ≡ true → PackedIn entry leaves (i + 1) old new
+  module _ {old new : List A} {i kept : ℕ} (packed : PackedIs old leaves i new kept) where
+    pub packed_few : kept ≤ i
+    packed_few = omega (arith, packed.count_is, staying_few leaves i)
+
+    pub packed_goes : get_or leaves i false ≡ true → PackedIs old leaves (i + 1) new kept
     packed_goes e = record {
       long = packed.long;
       front = rw (stay_same leaves i e) packed.front;
-      after = λ k h. packed.after k (omega arith);
+      after = λ k d h. packed.after k d (omega arith);
+      count_is = packed.count_is ∙ sym (ap length (stay_same leaves i e));
     }
 
-    packed_stays :
-        get_or leaves i false ≡ false → {new' : List ℕ} {kept : ℕ} → kept ≡ length (staying leaves i) → Written entry new new' kept (entry new i) →
-        PackedIn entry leaves (i + 1) old new'
-    packed_stays e {new'} {kept} is written =
+    pub packed_stays :
+        get_or leaves i false ≡ false → i < length old → (value : A) → ((d : A) → value ≡ get_or new i d) →
+        PackedIs old leaves (i + 1) (set new kept value) (kept + 1)
+    packed_stays e within value read =
         let s = staying leaves i in
-        let few = staying_few leaves i in
+        let is = packed.count_is in
+        let few = packed_few in
+        let same_long = packed.long in
+        let other : (k : ℕ) (d : A) → (k ≡ kept → ⊥) → get_or (set new kept value) k d ≡ get_or new k d =
+        λ k d ne. get_or-set_other new kept k value d ne
+        in
         record {
-          long = written.long ∙ packed.long;
+          long = length-set new kept value ∙ packed.long;
           front =
               rw
               (stay_more leaves i e)
-              (λ k h.
+              (λ k d h.
               by_less
               k
               kept
               (λ less.
-              written.other k (λ q. omega arith)
-              ∙ packed.front k (omega arith)
-              ∙ ap (entry old) (sym (get_or-append s (i ∷ []) 0 k (omega arith))))
+              other k d (λ q. omega arith)
+              ∙ packed.front k d (omega arith)
+              ∙ ap (λ n. get_or old n d) (sym (get_or-append s (i ∷ []) 0 k (omega arith))))
               (λ most.
               let same : k ≡ kept = omega (arith, length-append s (i ∷ [])) in
               rw
               (same, get_or_at s i [] 0 kept (sym is))
-              (written.here ∙ packed.after i (omega arith))));
-          after = λ k h. written.other k (λ q. omega arith) ∙ packed.after k (omega arith);
+              (get_or-set_same new kept value d (omega arith) ∙ read d ∙ packed.after i d (omega arith))));
+          after = λ k d h. other k d (λ q. omega arith) ∙ packed.after k d (omega arith);
+          count_is = rw (stay_more leaves i e) (omega (arith, is, length-append s (i ∷ [])));
         }
 
--- After i entries.
-pub record Packing
-    (begins ends jobs notes : List ℕ) (leaves : List Bool) (count : ℕ) (begins' ends' jobs' notes' : List ℕ) (kept cost i : ℕ) : Type 0 where
-  pub within : i ≤ count
-  pub few : kept ≤ i
-  pub cost_fits : cost ≤ i * largest_cost
-  pub are : PackedIs begins ends jobs notes leaves i begins' ends' jobs' notes' record { count = kept; cost = cost }
+-- What is left: the entries of the rows that stay, and blank ones past them.
 
--- the same, said of what a turn leaves
-pub packing_is :
-    {begins ends jobs notes : List ℕ} {leaves : List Bool} {count : ℕ} {begins' ends' jobs' notes' begins'' ends'' jobs'' notes'' : List ℕ} {kept cost kept' cost' i : ℕ} →
-    begins'' ≡ begins' → ends'' ≡ ends' → jobs'' ≡ jobs' → notes'' ≡ notes' → kept' ≡ kept → cost' ≡ cost →
-    Packing begins ends jobs notes leaves count begins' ends' jobs' notes' kept cost i →
-    Packing begins ends jobs notes leaves count begins'' ends'' jobs'' notes'' kept' cost' i
-packing_is b e j n k c packing = rw (b, e, j, n, k, c) packing
+-- what passes a test is what stands at the indices that do
+keep_indices :
+    {A : Type 0} (p : A → Bool) (q : ℕ → Bool) (f : ℕ → A) (d : A) (l : List A) (a : ℕ) →
+    ((i : ℕ) → i < length l → (q (a + i) ≡ p (get_or l i d)) × (f (a + i) ≡ get_or l i d)) → keep p l ≡ map f (keep q (numbers a (length l)))
+keep_indices p q f d [] a same = refl
+keep_indices p q f d (x ∷ l) a same =
+    let here : a + 0 ≡ a = omega arith in
+    let first = rw here at (same 0 (omega arith)) in
+    rw
+    first.0
+    (go
+    (p x)
+    first.1
+    (keep_indices p q f d l (suc a) (λ i h. let next : a + suc i ≡ suc a + i = omega arith in rw next at (same (suc i) (omega arith)))))
+  where
+    go :
+        (b : Bool) → f a ≡ x → keep p l ≡ map f (keep q (numbers (suc a) (length l))) →
+        cons_if b x (keep p l) ≡ map f (cons_if b a (keep q (numbers (suc a) (length l))))
+    go true e below = rw (e, below) refl
+    go false e below = below
 
-module _ {begins ends jobs notes : List ℕ} {leaves : List Bool} {from count : ℕ} (asked : AskTakeOut begins ends jobs notes leaves from count) where
-  pub packing_none : Packing begins ends jobs notes leaves count begins ends jobs notes from 0 from
-  packing_none =
-      let none = asked.first.none_before in
-      record {
-        within = asked.first.at_most;
-        few = omega arith;
-        cost_fits = omega arith;
-        are = record {
-          begins_are = packed_none _ leaves begins from none;
-          ends_are = packed_none _ leaves ends from none;
-          jobs_are = packed_none _ leaves jobs from none;
-          notes_are = packed_none _ leaves notes from none;
-          count_is = sym (ap length (stay_all leaves from none) ∙ length_numbers 0 from);
-          cost_is = sym (ap (sum_of (λ i. (nth_note notes i).cost)) (go_none leaves from none));
-        };
-      }
+-- Rows of which a list says which leave.
+module _ (line : List Row) (leaving : Row → Bool) {leaves : List Bool} {count : ℕ} (long : length line ≡ count) (says : Says leaving line leaves) where
+  abbrev pub row_at : ℕ → Row
+  row_at i = get_or line i no_row
 
-  -- the columns are as long as before
-  pub clear_asked :
-      {i : ℕ} {begins' ends' jobs' notes' : List ℕ} {r : Left} → PackedIs begins ends jobs notes leaves i begins' ends' jobs' notes' r →
-      AskClear begins' ends' jobs' notes' count
-  clear_asked are = record {
-    begins_long = are.begins_are.long ∙ asked.begins_long;
-    ends_long = are.ends_are.long ∙ asked.ends_long;
-    jobs_long = are.jobs_are.long ∙ asked.jobs_long;
-    notes_long = are.notes_are.long ∙ asked.notes_long;
-    few = asked.few;
-  }
+  pub kept_rows :
+      (p : Row → Bool) (q : ℕ → Bool) → ((i : ℕ) → i < length line → q i ≡ p (row_at i)) → keep p line ≡ map row_at (keep q (numbers 0 count))
+  kept_rows p q same =
+      rw
+      (← long)
+      (keep_indices p q row_at no_row line 0 (λ i h. let here : 0 + i ≡ i = omega arith in rw here (same i h, refl)))
+
+  others_are : left_of leaving line ≡ map row_at (staying leaves count)
+  others_are = kept_rows (λ row. not (leaving row)) (λ i. not (get_or leaves i false)) (λ i h. ap not (says.says i h))
+
+  others_count : length (staying leaves count) ≡ length (left_of leaving line)
+  others_count = sym (ap length others_are ∙ length-map (staying leaves count) row_at)
+
+  others_few : length (left_of leaving line) ≤ count
+  others_few = omega (arith, others_count, staying_few leaves count)
 
   module _
-      {begins' ends' jobs' notes' : List ℕ} {kept cost i : ℕ}
-      (packing : Packing begins ends jobs notes leaves count begins' ends' jobs' notes' kept cost i) where
-    module _ (more : i < count) where
-      pub note_there : {k : ℕ} → k ≤ i → AskNote notes' k
-      note_there low = record { long = (clear_asked packing.are).notes_long; there = let few = asked.few in omega arith }
+      {A : Type 0} (figure : Row → A) {blank : A} (none : figure no_row ≡ blank) {old middle new : List A} {kept : ℕ}
+      (packed : PackedIs old leaves count middle kept) (cleared : ClearedIs middle kept count blank new) (is : old ≡ column figure line) where
+    stood : (k : ℕ) → get_or old k blank ≡ figure (row_at k)
+    stood k = ap (λ l. get_or l k blank) is ∙ column_past figure none line k
 
-      module _ {note : Note} (read : note ≡ nth_note notes' i) where
-        -- a row that is yet to be passed is as it was
-        unread : note ≡ nth_note notes i
-        unread = read ∙ packing.are.notes_are.after i (omega arith)
+    remaining : (k : ℕ) → get_or new k blank ≡ figure (get_or (left_of leaving line) k no_row)
+    remaining k =
+        let count_is = packed.count_is in
+        let past : length (left_of leaving line) ≤ k → figure (get_or (left_of leaving line) k no_row) ≡ blank =
+        λ out. ap figure (get_or-eq_default (left_of leaving line) no_row out) ∙ none
+        in
+        by_less
+        k
+        kept
+        (λ less.
+        cleared.before k blank less
+        ∙ packed.front k blank (omega arith)
+        ∙ stood (get_or (staying leaves count) k 0)
+        ∙ ap figure (sym (ap (λ l. get_or l k no_row) others_are ∙ get_or-map row_at (staying leaves count) k 0 no_row (omega arith))))
+        (λ most.
+        by_less
+        k
+        count
+        (λ less. cleared.blanks k blank most less ∙ sym (past (omega (arith, others_count))))
+        (λ out.
+        cleared.after k blank out
+        ∙ packed.after k blank out
+        ∙ stood k
+        ∙ ap figure (get_or-eq_default line no_row (omega arith))
+        ∙ none
+        ∙ sym (past (omega (arith, others_count)))))
 
-        cost_same : note.cost ≡ (nth_note notes i).cost
-        cost_same = ap (λ x. x.cost) unread
+    column_left : count ≤ row_limit → length old ≡ spans_room → new ≡ column figure (left_of leaving line)
+    column_left few wide =
+        column_is figure none (left_of leaving line) (omega (arith, others_few)) (cleared.long ∙ packed.long ∙ wide) remaining
 
-        pub cost_few : note.cost ≤ largest_cost
-        cost_few = omega (arith, cost_same, asked.costs_fit i more)
+module _ {A : Type 0} {old : List A} {leaves : List Bool} {from count : ℕ} (asked : AskKeep old leaves from count) where
+  pub clear_asked : {new : List A} {kept : ℕ} → PackedIs old leaves count new kept → AskClear new kept count
+  clear_asked packed = let long = packed.long in record { within = packed_few packed; room = let room = asked.room in omega arith }
 
-        pub packing_goes :
-            get_or leaves i false ≡ true → Packing begins ends jobs notes leaves count begins' ends' jobs' notes' kept (cost + note.cost) (i + 1)
-        packing_goes e =
-            let are = packing.are in
-            record {
-              within = omega arith;
-              few = omega arith;
-              cost_fits = omega (arith, cost_few);
-              are = record {
-                begins_are = packed_goes _ leaves are.begins_are e;
-                ends_are = packed_goes _ leaves are.ends_are e;
-                jobs_are = packed_goes _ leaves are.jobs_are e;
-                notes_are = packed_goes _ leaves are.notes_are e;
-                count_is = are.count_is ∙ sym (ap length (stay_same leaves i e));
-                cost_is =
-                    rw
-                    (go_more leaves i e, sum_append (λ k. (nth_note notes k).cost) (going leaves i) (i ∷ []))
-                    (omega (arith, are.cost_is, cost_same));
-              };
-            }
-
-        pub packing_stays :
-            get_or leaves i false ≡ false → {notes'' : List ℕ} → NotePut notes' kept note notes'' →
-            Packing begins ends jobs notes leaves count
-            (set begins' kept (get_or begins' i 0)) (set ends' kept (get_or ends' i 0)) (set jobs' kept (get_or jobs' i 0)) notes'' (kept + 1) cost (i + 1)
-        packing_stays e put =
-            let are = packing.are in
-            let is = are.count_is in
-            let long = clear_asked are in
-            record {
-              within = omega arith;
-              few = omega arith;
-              cost_fits = omega arith;
-              are = record {
-                begins_are = packed_stays _ leaves are.begins_are e is (figure_written begins' kept _ (omega arith));
-                ends_are = packed_stays _ leaves are.ends_are e is (figure_written ends' kept _ (omega arith));
-                jobs_are = packed_stays _ leaves are.jobs_are e is (figure_written jobs' kept _ (omega arith));
-                notes_are = packed_stays _ leaves are.notes_are e is (rw read at (note_written notes' kept note (omega arith) put));
-                count_is = rw (stay_more leaves i e) (omega (arith, is, length-append (staying leaves i) (i ∷ [])));
-                cost_is = rw (go_same leaves i e) are.cost_is;
-              };
-            }
-
-    pub packing_all : count ≤ i → PackedIs begins ends jobs notes leaves count begins' ends' jobs' notes' record { count = kept; cost = cost }
-    packing_all all = let same : i ≡ count = omega arith in rw same at packing.are
+  pub kept_is :
+      {middle new : List A} {kept : ℕ} {blank : A} → PackedIs old leaves count middle kept → ClearedIs middle kept count blank new →
+      KeptIs old leaves count blank new kept
+  kept_is packed cleared = record {
+    is =
+        λ line leaving figure long says none is.
+        let few = asked.few in
+        column_left line leaving long says figure none packed cleared is few (ap length is ∙ column_long figure line (omega arith));
+    count_is = λ line leaving long says. packed.count_is ∙ others_count line leaving long says;
+  }

@@ -1,51 +1,50 @@
--- The two loops of a search: what holds before, at and after each turn.
+-- The two steps of a search: what halving finds, and what holds before, at and after each turn of the walk.
+use mathlib.Core.Path.{◌≡◌}
+use mathlib.Core.Bool.{true, false}
 use Prim.Native.Nat.{ℕ, ◌+◌, ◌*◌, ◌≤◌, ◌<◌}
 use native.Mathlib.Omega.{arith}
 use mathlib.Core.List.{List}
-use lib.ListN.{get_or}
+use lib.ListN.{length, get_or, take}
+use lib.Seq.{length-take-le, get_or-take}
+use lib.Dec.{leb}
+use borrow.Author.Tests.{leb-true, leb-false}
+use Rattle.std.specs.List.Sorted.{IsPartitionedBy, IsPartitionPoint}
+use Rattle.std.proofs.lemmas.List.Sorted.{IsNonDecreasingBy-from_default, IsPartitionedBy-leb}
 use Rattle.rules.specs.Codes.{resource_bound}
 use Rattle.rules.proofs.Sequences.{by_less}
 use Rattle.timeline.specs.Timeline.{tick_room, AskFirst, FirstAfter, AskGap, Met, SpansPassed, GapIs, AskLeast}
 
--- Halving: those below `low` end at or before the place, and those from `high` on after it.
+-- Halving: the first so many ends ascend, and so those that pass the test stand before the others.
 
-pub record Halved (ends : List ℕ) (count at low high : ℕ) : Type 0 where
-  pub low_first : low ≤ high
-  pub within : high ≤ count
-  pub before : (i : ℕ) → i < low → get_or ends i 0 ≤ at
-  pub after : (i : ℕ) → high ≤ i → i < count → at < get_or ends i 0
+module _ {ends : List ℕ} {count : ℕ} (asked : AskFirst ends count) (place : ℕ) where
+  long : length (take count ends) ≡ count
+  long = length-take-le count ends asked.long
 
-module _ (ends : List ℕ) (count at : ℕ) where
-  pub halved_none : Halved ends count at 0 count
-  halved_none = record {
-    low_first = omega arith;
-    within = omega arith;
-    before = λ i h. absurd (omega arith);
-    after = λ i h k. absurd (omega arith);
-  }
+  pub ends_parted : IsPartitionedBy (λ end. leb end place) (take count ends)
+  ends_parted =
+      IsPartitionedBy-leb
+      (λ end. end)
+      (take count ends)
+      place
+      (IsNonDecreasingBy-from_default
+      (λ end. end)
+      (take count ends)
+      0
+      (λ i k h within.
+      let below : k < count = omega (arith, long) in
+      omega (arith, get_or-take count ends i 0 (omega arith), get_or-take count ends k 0 below, asked.ascend i k h below)))
 
-  module _ (low high middle : ℕ) (asked : AskFirst ends count) (halved : Halved ends count at low high) (in_it : middle < high) where
-    pub halved_up : get_or ends middle 0 ≤ at → Halved ends count at (middle + 1) high
-    halved_up h = record {
-      low_first = omega arith;
-      within = halved.within;
-      before = λ i below. omega (arith, asked.ascend i middle (omega arith) (omega arith));
-      after = halved.after;
-    }
-
-    pub halved_down : low ≤ middle → at < get_or ends middle 0 → Halved ends count at low middle
-    halved_down least h = record {
-      low_first = least;
-      within = omega arith;
-      before = halved.before;
-      after = λ i from below. omega (arith, asked.ascend middle i from below);
-    }
-
-  pub halved_all : (low high : ℕ) → Halved ends count at low high → high ≤ low → FirstAfter ends count at low
-  halved_all low high halved h = record {
-    at_most = omega arith;
-    before = halved.before;
-    after = λ i from below. halved.after i (omega arith) below;
+  pub first_is :
+      {r : ℕ} → r ≤ length (take count ends) → IsPartitionPoint (λ end. leb end place ≡ true) (λ end. leb end place ≡ false) (take count ends) r →
+      FirstAfter ends count place r
+  first_is most point = record {
+    at_most = omega (arith, long);
+    before =
+        λ i h.
+        omega (arith, long, get_or-take count ends i 0 (omega (arith, long)), leb-true _ place (point.0 i 0 (omega arith) h));
+    after =
+        λ i low high.
+        omega (arith, get_or-take count ends i 0 high, leb-false _ place (point.1 i 0 low (omega (arith, long))));
   }
 
 -- Walking: the spans below `i` are passed, and the place so far leaves room for what is sought in a word.

@@ -3,7 +3,7 @@ use Rattle.std.specs.Prelude.{◌≡◌, List, ◌++◌, ℕ, ◌≤◌}
 use Rattle.rules.specs.Words.{Resource, Hold}
 use Rattle.rules.specs.Codes.{resource_number}
 use Rattle.rules.specs.Placing.{spans_on, least_free}
-use Rattle.timeline.specs.declared.beside.Sought.{Sought}
+use Rattle.timeline.specs.declared.line.Sought.{Sought}
 use Rattle.timeline.specs.Timeline.{Known, Drawn, tick_limit, longest_sought}
 
 -- some holds are drawn in each, and the number is that of some resource
@@ -14,7 +14,7 @@ pub record AskBeside (begins ends : List ℕ) (count : ℕ) (other_begins other_
   pub drawn_beside : Drawn beside other_begins other_ends others
   pub on : Resource
   pub known : Known on
-  pub code_is : resource_number on ≡ sought.code
+  pub code_is : resource_number on ≡ sought.resource
   pub from_at_most : sought.from ≤ tick_limit
   pub some : 1 ≤ sought.len
   pub len_at_most : sought.len ≤ longest_sought
@@ -23,4 +23,4 @@ pub record AskBeside (begins ends : List ℕ) (count : ℕ) (other_begins other_
 pub record BesideIs (begins ends : List ℕ) (count : ℕ) (other_begins other_ends : List ℕ) (others : ℕ) (sought : Sought) (r : ℕ) : Type 0 where
   pub is :
       (held beside : List Hold) (on : Resource) → Drawn held begins ends count → Drawn beside other_begins other_ends others → Known on →
-      resource_number on ≡ sought.code → r ≡ least_free sought.from sought.len (spans_on on (held ++ beside))
+      resource_number on ≡ sought.resource → r ≡ least_free sought.from sought.len (spans_on on (held ++ beside))

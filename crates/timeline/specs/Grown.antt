@@ -3,7 +3,7 @@ use Rattle.std.specs.Prelude.{◌≡◌, List, [], ◌∷◌, ◌++◌, ℕ, ◌
 use Rattle.rules.specs.Words.{Hold}
 use Rattle.rules.specs.Laws.{TakenOn}
 use Rattle.timeline.specs.Timeline.{begin_of, end_of, Drawable, Drawn, AskFirst, FirstAfter}
-use Rattle.timeline.specs.RowLine.{InsertedAt}
+use Rattle.timeline.specs.RowLine.{InsertedAt, AskRemoveAt, RemovedAt}
 
 -- no tick of the hold's span is taken on its resource
 abbrev pub Untaken : List Hold → Hold → Type 0
@@ -22,3 +22,13 @@ pub record SpanPut (begins ends : List ℕ) (count begin end : ℕ) (begins' end
   pub is :
       (held : List Hold) (h : Hold) → Drawn held begins ends count → begin ≡ begin_of h → end ≡ end_of h → Drawable h → Untaken held h →
       Drawn (held ++ (h ∷ [])) begins' ends' (count + 1)
+
+-- One span less.
+
+pub record AskOff (begins ends : List ℕ) (count at : ℕ) : Type 0 where
+  pub begins_ask : AskRemoveAt begins count at
+  pub ends_ask : AskRemoveAt ends count at
+
+pub record SpanOff (begins ends : List ℕ) (count at : ℕ) (begins' ends' : List ℕ) : Type 0 where
+  pub begins_are : RemovedAt begins count at 0 begins'
+  pub ends_are : RemovedAt ends count at 0 ends'

@@ -6,3 +6,4 @@ pub mod Notes
 pub mod Packing
 pub mod TakenOut
 pub mod Beside
+pub mod Lines

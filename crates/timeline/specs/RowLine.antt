@@ -1,10 +1,9 @@
 -- Between functions: the rows of a register by where they begin on the line, columns with a figure of each, and what the functions that change columns do.
 use Rattle.std.specs.Prelude.{◌≡◌, Bool, false, cond, List, [], ◌∷◌, ◌++◌, map, ℕ, ◌+◌, ◌-◌, ◌≤◌, ◌<◌, ltb, length, get_or, take, drop, replicate}
 use Rattle.rules.specs.declared.Row.{Row}
-use Rattle.rules.specs.Sequences.{joined}
 use Rattle.rules.specs.Words.{hold_of, row_limit, most_tasks, most_messages}
-use Rattle.rules.specs.Codes.{holder_label}
 use Rattle.rules.specs.Placing.{no_row}
+use Rattle.timeline.specs.declared.notes.Note.{Note}
 use Rattle.timeline.specs.Timeline.{begin_of, end_of}
 
 -- the rows of one job at the most, and the room of the columns
@@ -36,8 +35,8 @@ line_of rows = line_onto [] rows
 abbrev pub slots : (room : ℕ) → List Row → List Row
 slots room rows = rows ++ replicate (room - length rows) no_row
 
--- a figure of each slot
-abbrev pub column : (figure : Row → ℕ) → List Row → List ℕ
+-- what each slot says
+abbrev pub column : {A : Type 0} → (figure : Row → A) → List Row → List A
 column figure line = map figure (slots spans_room line)
 
 -- the begins and ends of rows, in their order on the line
@@ -45,16 +44,12 @@ pub record SpansOf (rows : List Row) (begins ends : List ℕ) : Type 0 where
   pub begins_are : begins ≡ column row_begin (line_of rows)
   pub ends_are : ends ≡ column row_end (line_of rows)
 
--- what is noted of a row: its label, its cost, and the last finish of its job
-abbrev pub note_of : (last : ℕ → ℕ) → Row → List ℕ
-note_of last row = holder_label row.holder ∷ row.cost ∷ last row.job ∷ []
+-- what is noted of a row: its holder, its cost, and the last finish of its job
+abbrev pub note_of : (last : ℕ → ℕ) → Row → Note
+note_of last row = record { holder = row.holder; cost = row.cost; last = last row.job }
 
-abbrev pub notes_of : (last : ℕ → ℕ) → List Row → List ℕ
-notes_of last line = joined (map (note_of last) (slots spans_room line))
-
--- the figures of a note
-abbrev pub note_size : ℕ
-note_size = 3
+abbrev pub notes_of : (last : ℕ → ℕ) → List Row → List Note
+notes_of last line = column (note_of last) line
 
 -- where a row goes on a line
 pub record GoesAt (line : List Row) (row : Row) (at : ℕ) : Type 0 where
@@ -62,20 +57,20 @@ pub record GoesAt (line : List Row) (row : Row) (at : ℕ) : Type 0 where
   pub is : insert_row row line ≡ take at line ++ (row ∷ drop at line)
 
 -- A value put at an index of the first so many, and those from there on one place further.
-pub record InsertedAt (old : List ℕ) (count at value : ℕ) (new : List ℕ) : Type 0 where
+pub record InsertedAt {A : Type 0} (old : List A) (count at : ℕ) (value : A) (new : List A) : Type 0 where
   pub new_is : new ≡ take at old ++ (value ∷ (take (count - at) (drop at old) ++ drop (count + 1) old))
   pub long : length new ≡ length old
 
-pub record AskInsert (old : List ℕ) (count at : ℕ) : Type 0 where
+pub record AskInsert {A : Type 0} (old : List A) (count at : ℕ) : Type 0 where
   pub room : count < length old
   pub within : at ≤ count
 
--- A value taken out at an index of the first so many: those after it go one place back, and the last leaves a zero.
-pub record RemovedAt (old : List ℕ) (count at : ℕ) (new : List ℕ) : Type 0 where
-  pub new_is : new ≡ take at old ++ (take (count - (at + 1)) (drop (at + 1) old) ++ (0 ∷ drop count old))
+-- A value taken out at an index of the first so many: those after it go one place back, and the last leaves a blank.
+pub record RemovedAt {A : Type 0} (old : List A) (count at : ℕ) (blank : A) (new : List A) : Type 0 where
+  pub new_is : new ≡ take at old ++ (take (count - (at + 1)) (drop (at + 1) old) ++ (blank ∷ drop count old))
   pub long : length new ≡ length old
 
-pub record AskRemoveAt (old : List ℕ) (count at : ℕ) : Type 0 where
+pub record AskRemoveAt {A : Type 0} (old : List A) (count at : ℕ) : Type 0 where
   pub room : count ≤ length old
   pub within : at < count
 

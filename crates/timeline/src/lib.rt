@@ -1,11 +1,9 @@
 // The timeline: every span that is held, of all machines and links on one ascending number line, and what is noted of each.
 #![tactic(auto)]
 
-pub mod beside;
-pub mod insertion;
+pub mod columns;
+pub mod line;
 pub mod notes;
-pub mod removal;
-pub mod search;
 
 // One past every tick that a span names: the ticks of a resource lie from its number times this on.
 pub const TICKS: u64 = 4_294_967_296;

@@ -10,19 +10,17 @@ use lib.Dec.{leb, eqb}
 use lib.ListN.{length}
 use borrow.Author.Tests.{leb-true, leb-false, le-leb, lt-leb, eqb-true, ne_eqb, not-true}
 use Rattle.rules.specs.declared.Row.{Row}
-use Rattle.rules.specs.Sequences.{any_of, all_of, keep, joined}
+use Rattle.rules.specs.Sequences.{any_of, all_of, keep}
 use Rattle.rules.specs.Words.{of_job}
-use Rattle.rules.specs.Codes.{holder_label}
 use Rattle.rules.specs.Placing.{no_row}
 use Rattle.rules.specs.Withdrawing.{ended}
 use Rattle.rules.proofs.Sequences.{by_test, any_witness, keep_mem, mem_keep, keep_none, map_same}
 use Rattle.timeline.specs.RowLine.{spans_room, line_of, slots, note_of, notes_of}
-use Rattle.timeline.proofs.Line.{line_from}
-use Rattle.timetable.specs.Derived.{least_of, most_of, never, last_finish, soonest_end}
+use Rattle.timeline.proofs.RowLines.{line_from}
+use Rattle.timetable.specs.Derived.{most_of, never, last_finish, soonest_end}
 use Rattle.timetable.specs.Marks.{WholeJobs}
 use Rattle.timetable.proofs.Lists.{mem_replicate, keep_within}
 use Rattle.timetable.proofs.Extremes.{least_none, least_low, least_above}
-use Rattle.timetable.proofs.Lines.{least_line}
 
 -- The greatest of figures: at least each of them, and none below it is.
 
@@ -92,7 +90,7 @@ module _ {leaving : Row → Bool} {rows : List Row} (whole : WholeJobs leaving r
   staying = keep (stay leaving) rows
 
   -- the rows of a job of which a row stays are all there
-  pub last_kept : (row : Row) → Memᴰ row rows → leaving row ≡ false → last_finish staying row.job ≡ last_finish rows row.job
+  last_kept : (row : Row) → Memᴰ row rows → leaving row ≡ false → last_finish staying row.job ≡ last_finish rows row.job
   last_kept row m stays =
       ap
       (λ l. most_of (map (λ x. x.finish) l))
@@ -106,11 +104,6 @@ module _ {leaving : Row → Bool} {rows : List Row} (whole : WholeJobs leaving r
   kept_last row m =
       let there = mem_keep (stay leaving) rows m in
       sym (last_kept row there.0 (not-true (leaving row) there.1))
-
-  pub soonest_kept : least_of never (map (λ row. last_finish rows row.job) (line_of staying)) ≡ soonest_end staying
-  soonest_kept =
-      least_line never (λ row. last_finish rows row.job) staying
-      ∙ ap (least_of never) (map_same (λ row. last_finish rows row.job) (λ row. last_finish staying row.job) staying kept_last)
 
   module _ (blank : last_finish rows 0 ≡ 0) where
     blank_kept : last_finish staying 0 ≡ 0
@@ -129,21 +122,19 @@ module _ {leaving : Row → Bool} {rows : List Row} (whole : WholeJobs leaving r
     -- the notes of the rows that stay are right of these alone
     pub notes_kept : notes_of (last_finish rows) (line_of staying) ≡ notes_of (last_finish staying) (line_of staying)
     notes_kept =
-        ap
-        joined
-        (map_same
+        map_same
         (note_of (last_finish rows))
         (note_of (last_finish staying))
         (slots spans_room (line_of staying))
         (λ row m.
         ap
-        (λ last. holder_label row.holder ∷ row.cost ∷ last ∷ [])
+        (λ last. record { holder = row.holder; cost = row.cost; last = last })
         (⊎_elim
         (λ there. kept_last row (line_from staying there))
         (λ none.
         let same : row ≡ no_row = mem_replicate (spans_room - length (line_of staying)) none in
         rw same (blank ∙ sym blank_kept))
-        (Memᴰ.append_cases (line_of staying) m))))
+        (Memᴰ.append_cases (line_of staying) m)))
 
 -- A job that leaves: the soonest end is its own, or that of the others.
 

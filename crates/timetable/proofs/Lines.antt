@@ -8,7 +8,7 @@ use Rattle.rules.specs.declared.Row.{Row}
 use Rattle.rules.specs.Sequences.{any_of}
 use Rattle.rules.proofs.Sequences.{by_test, any_mem, any_none, any_witness, none_any}
 use Rattle.timeline.specs.RowLine.{line_of}
-use Rattle.timeline.proofs.Line.{line_has, line_from}
+use Rattle.timeline.proofs.RowLines.{line_has, line_from}
 use Rattle.timetable.specs.Derived.{least_of}
 use Rattle.timetable.proofs.Extremes.{least_none, least_low, least_above}
 

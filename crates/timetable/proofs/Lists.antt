@@ -3,27 +3,26 @@ use mathlib.Core.Path.{◌≡◌, refl, ap}
 use mathlib.Core.Logic.{⊎_elim}
 use mathlib.Core.Bool.{Bool, true, ◌&&◌, ◌||◌}
 use mathlib.Core.List.Memᴰ
-use mathlib.Core.List.{List, [], ◌∷◌, Memᴰ}
-use Prim.Native.Nat.{ℕ, zero, suc, ◌+◌, ◌<◌}
-use native.Mathlib.Omega.{arith}
-use lib.Dec.{eqb}
+use mathlib.Core.List.{List, [], ◌∷◌, map, Memᴰ}
+use Prim.Native.Nat.{ℕ, zero, suc}
 use lib.ListN.{replicate}
-use borrow.Author.Tests.{eqb-true, eqb-false}
+use Rattle.std.specs.List.{list_any}
 use Rattle.rules.specs.Sequences.{any_of, keep, cons_if}
 use Rattle.rules.proofs.Sequences.{by_test, clash}
-
--- what holds of the first i, and of that at i, holds of the first i + 1
-pub one_more : {P : ℕ → Type 0} {i : ℕ} → ((k : ℕ) → k < i → P k) → P i → (k : ℕ) → k < i + 1 → P k
-one_more {P} {i} before here k h =
-    by_test
-    (eqb k i)
-    (λ q. rw (eqb-true k i q) here)
-    (λ q. let other = eqb-false k i q in before k (omega (arith, other)))
 
 module _ {A : Type 0} where
   pub mem_replicate : {x y : A} (n : ℕ) → Memᴰ y (replicate n x) → y ≡ x
   mem_replicate zero m = absurd (Memᴰ.not-nil m)
   mem_replicate (suc n) m = ⊎_elim (λ same. same) (λ rest. mem_replicate n rest) (Memᴰ.cases_cons m)
+
+  pub map_replicate : {B : Type 0} (f : A → B) (n : ℕ) (x : A) → map f (replicate n x) ≡ replicate n (f x)
+  map_replicate f zero x = refl
+  map_replicate f (suc n) x = ap (λ l. f x ∷ l) (map_replicate f n x)
+
+  -- some of what a list is mapped to passes a test
+  pub any_mapped : {B : Type 0} (p : B → Bool) (f : A → B) (l : List A) → list_any p (map f l) ≡ any_of (λ x. p (f x)) l
+  any_mapped p f [] = refl
+  any_mapped p f (x ∷ l) = ap (λ b. p (f x) || b) (any_mapped p f l)
 
   -- one of those kept passes a test if one passes both
   pub any_keep : (p q : A → Bool) (l : List A) → any_of p (keep q l) ≡ any_of (λ x. q x && p x) l

@@ -1,37 +1,92 @@
--- The timetable of a state without the rows of whole jobs: the columns without them, and the status; and that the columns are such as a removal asks.
-use mathlib.Core.Path.{◌≡◌, refl, sym, ap, ap₂, ◌∙◌, subst}
-use mathlib.Core.Bool.{Bool, true, false, not}
+-- Rows that leave a timetable: what it is asked for, that their cost is within the total, and that what is left of whole jobs' rows is the state's without them.
+use mathlib.Core.Path.{◌≡◌, refl, sym, ap, ◌∙◌}
+use mathlib.Core.Bool.{Bool, false, not}
 use mathlib.Core.List.{List, Memᴰ}
-use Prim.Native.Nat.{ℕ, ◌+◌, ◌-◌, ◌*◌, ◌≤◌, ◌<◌, min}
+use Prim.Native.Nat.{ℕ, ◌-◌, ◌≤◌}
 use native.Mathlib.Omega.{arith}
-use lib.Dec.{leb, eqb}
-use lib.ListN.{length, get_or}
-use borrow.Author.Tests.{ne_eqb}
+use lib.Dec.{eqb}
+use lib.ListN.{length}
 use Rattle.rules.specs.declared.Row.{Row}
 use Rattle.rules.specs.declared.Setup.{Setup}
-use Rattle.rules.specs.Sequences.{any_of, keep}
-use Rattle.rules.specs.Words.{Calendar, State, with_clock, with_calendar, of_job}
-use Rattle.rules.specs.Placing.{no_row, costs}
-use Rattle.rules.specs.Bounds.{Bounded}
-use Rattle.rules.specs.Withdrawing.{remove, withdraw, ended, advance}
-use Rattle.rules.specs.Refusals.{Call, withdraws, advances}
-use Rattle.rules.proofs.Sequences.{get_or_mem, keep_all, keep_none, keep_same}
-use Rattle.rules.proofs.Bounds.{bounded_step}
-use Rattle.timeline.specs.declared.removal.Left.{Left}
-use Rattle.timeline.specs.RowLine.{spans_room, row_begin, row_end, line_of, column, notes_of, note_size, Says}
-use Rattle.timeline.specs.TakenOut.{FirstLeaving, AskTakeOut, TakenOutIs}
-use Rattle.timeline.proofs.Columns.{column_long, notes_long, note_stands}
-use Rattle.timeline.proofs.Line.{line_long, line_from}
+use Rattle.rules.specs.Sequences.{keep}
+use Rattle.rules.specs.Words.{State, of_job, row_limit}
+use Rattle.rules.specs.Placing.{costs}
+use Rattle.rules.specs.Withdrawing.{remove, ended}
+use Rattle.rules.proofs.Sequences.{keep_all, keep_none, length_keep, sum_split}
+use Rattle.timeline.specs.declared.line.Timeline.{Timeline}
+use Rattle.timeline.specs.declared.notes.Note.{Note}
+use Rattle.timeline.specs.RowLine.{spans_room, row_begin, row_end, line_of, column, notes_of, note_of, Says}
+use Rattle.timeline.specs.Notes.{no_note, AskCosts, CostIs}
+use Rattle.timeline.specs.TakenOut.{KeptIs}
+use Rattle.timeline.proofs.ColumnLaws.{column_long, begin_blank, end_blank, note_blank}
+use Rattle.timeline.proofs.RowLines.{line_long}
 use Rattle.timeline.proofs.Keeping.{line_keep, line_costs}
-use Rattle.timetable.specs.declared.Status.{Status}
+use Rattle.timetable.specs.declared.Timetable.{Timetable}
 use Rattle.timetable.specs.Derived.{last_finish, soonest_end}
-use Rattle.timetable.specs.Marks.{PlaceOf, SoonestIs, SoonestLeft, WholeJobs}
-use Rattle.timetable.specs.Timetables.{TimetableOf, Long}
-use Rattle.timetable.proofs.Steps.{StepIs}
-use Rattle.timetable.proofs.Carried.{job_at}
-use Rattle.timetable.proofs.Ends.{stay, whole_by, last_none, ended_last, none_ended, notes_kept, soonest_kept, soonest_without}
+use Rattle.timetable.specs.Marks.{WholeJobs}
+use Rattle.timetable.specs.Timetables.{timetable_of, TimetableOf, AskTakeOut, TakenOutIs}
+use Rattle.timetable.proofs.Ends.{stay, whole_by, notes_kept}
+use Rattle.timetable.proofs.Standing.{count_is, few_held, notes_are, no_last, row_there, note_at}
 
-remove_none : (leaving : Row → Bool) (st : State) → ((row : Row) → Memᴰ row st.rows → leaving row ≡ false) → remove leaving st ≡ st
+-- What the functions called are asked.
+module _ {t : Timetable} {leaves : List Bool} {from : ℕ} (ask : AskTakeOut t leaves from) where
+  abbrev held : List Row
+  held = ask.ask.state.rows
+
+  pub costs_asked : {count : ℕ} → count ≡ t.line.count → AskCosts t.notes count
+  costs_asked same =
+      let is = ask.ask.is in
+      let few = few_held is in
+      rw
+      same
+      (record {
+        room = omega (arith, ap length (notes_are is), column_long (note_of (last_finish held)) (line_of held) (omega (arith, count_is is)), few);
+        few = few;
+        costs_fit = λ i h. omega (arith, ap (λ note. note.cost) (note_at is i h), (is.bounded.rows _ (row_there is i h)).cost);
+      })
+
+  -- the rows that leave cost no more than all
+  pub cost_within : {count cost : ℕ} → count ≡ t.line.count → CostIs t.notes leaves count cost → cost ≤ t.total
+  cost_within same cost_is =
+      let is = ask.ask.is in
+      let gone = cost_is (line_of held) ask.leaving (last_finish held) (count_is is ∙ sym same) ask.says (notes_are is) in
+      omega (
+        arith,
+        gone,
+        sum_split (λ row. row.cost) ask.leaving (line_of held),
+        line_costs held,
+        is.bounded.total,
+        ap (λ x. x.total) is.is,
+      )
+
+-- What they leave.
+pub taken_out :
+    (t : Timetable) {leaves : List Bool} {count cost : ℕ} → count ≡ t.line.count → CostIs t.notes leaves count cost → (line' : Timeline spans_room) →
+    KeptIs t.line.begins leaves t.line.count 0 line'.begins line'.count → KeptIs t.line.ends leaves t.line.count 0 line'.ends line'.count →
+    {jobs' : List ℕ} {some : ℕ} → KeptIs t.jobs leaves count 0 jobs' some → {notes' : List Note} {others : ℕ} → KeptIs t.notes leaves count no_note notes' others →
+    TakenOutIs t leaves (record { line = line'; jobs = jobs'; notes = notes'; clock = t.clock; total = t.total - cost; soonest = t.soonest })
+taken_out t same cost_is line' begins_kept ends_kept jobs_kept notes_kept = record {
+  is =
+      λ line leaving last n says none begins_are ends_are jobs_are notes_are.
+      let m = n ∙ sym same in
+      let begins = begins_kept.is line leaving row_begin n says begin_blank begins_are in
+      let ends = ends_kept.is line leaving row_end n says end_blank ends_are in
+      let count = begins_kept.count_is line leaving n says in
+      let jobs = jobs_kept.is line leaving (λ row. row.job) m says refl jobs_are in
+      let notes = notes_kept.is line leaving (note_of last) m says (note_blank last none) notes_are in
+      let gone = cost_is line leaving last m says notes_are in
+      λ i. record {
+        line = record { begins = begins i; ends = ends i; count = count i };
+        jobs = jobs i;
+        notes = notes i;
+        clock = t.clock;
+        total = t.total - gone i;
+        soonest = t.soonest;
+      };
+}
+
+-- no row leaves
+pub remove_none : (leaving : Row → Bool) (st : State) → ((row : Row) → Memᴰ row st.rows → leaving row ≡ false) → remove leaving st ≡ st
 unfolding remove
 remove_none leaving st none =
     let rows_stay = keep_all (stay leaving) st.rows (λ row m. ap not (none row m)) in
@@ -44,204 +99,36 @@ remove_none leaving st none =
 pub whole_job : (number : ℕ) (rows : List Row) → WholeJobs (of_job number) rows
 whole_job number rows = whole_by (λ job. eqb job number) rows
 
-abbrev pub past : List Row → (tick : ℕ) → Row → Bool
-past rows tick row = leb (last_finish rows row.job) tick
-
-pub whole_past : (rows : List Row) (tick : ℕ) → WholeJobs (past rows tick) rows
-whole_past rows tick = whole_by (λ job. leb (last_finish rows job) tick) rows
-
-abbrev row_ended : List Row → (tick : ℕ) → Row → Bool
+abbrev pub row_ended : List Row → (tick : ℕ) → Row → Bool
 row_ended rows tick row = ended tick (keep (of_job row.job) rows)
 
-module _ {s : Setup} {st : State} {b e j n : List ℕ} {status : Status} (is : TimetableOf s st b e j n status) where
-  abbrev line : List Row
-  line = line_of st.rows
+pub whole_ended : (rows : List Row) (tick : ℕ) → WholeJobs (row_ended rows tick) rows
+whole_ended rows tick = whole_by (λ job. ended tick (keep (of_job job) rows)) rows
 
-  pub count_is : length line ≡ status.count
-  count_is = line_long st.rows ∙ sym (ap (λ x. x.count) is.status_is)
+module _
+    {s : Setup} {st : State} {t : Timetable} (is : TimetableOf s st t) {leaving : Row → Bool} (whole : WholeJobs leaving st.rows) {leaves : List Bool}
+    (says : Says leaving (line_of st.rows) leaves) {t' : Timetable} (taken : TakenOutIs t leaves t') where
+  -- all but the soonest end is that of the state without the rows
+  pub taken_is : t' ≡ record (timetable_of (remove leaving st)) { soonest = soonest_end st.rows }
+  unfolding remove
+  taken_is =
+      let left = taken.is (line_of st.rows) leaving (last_finish st.rows) (count_is is) says (no_last is) (ap (λ x. x.line.begins) is.is) (ap (λ x. x.line.ends) is.is) (ap (λ x. x.jobs) is.is) (notes_are is) in
+      let kept = line_keep (stay leaving) st.rows in
+      let rest = keep (stay leaving) st.rows in
+      let count = ap length kept ∙ line_long rest in
+      let notes = ap (notes_of (last_finish st.rows)) kept ∙ notes_kept whole (no_last is) in
+      let gone = ap costs (line_keep leaving st.rows) ∙ line_costs (keep leaving st.rows) in
+      let before = is.is in
+      left
+      ∙ (λ i. record {
+        line = record { begins = column row_begin (kept i); ends = column row_end (kept i); count = count i };
+        jobs = column (λ row. row.job) (kept i);
+        notes = notes i;
+        clock = (before i).clock;
+        total = (before i).total - gone i;
+        soonest = (before i).soonest;
+      })
 
-  few_rows : length line ≤ spans_room
-  few_rows = omega (arith, line_long st.rows, is.bounded.count)
-
-  -- 0 is no job's number
-  blank : last_finish st.rows 0 ≡ 0
-  blank = last_none st.rows (λ row m. (is.bounded.rows row m).job.first)
-
-  pub timetable_long : Long b e j n
-  timetable_long = record {
-    begins_long = ap length is.spans.begins_are ∙ column_long row_begin line few_rows;
-    ends_long = ap length is.spans.ends_are ∙ column_long row_end line few_rows;
-    jobs_long = ap length is.jobs_are ∙ column_long (λ row. row.job) line few_rows;
-    notes_long = ap length is.notes_are ∙ notes_long (last_finish st.rows) line few_rows;
-  }
-
-  -- What a removal asks.
-
-  pub take_out_asked :
-      {leaving : Row → Bool} {leaves : List Bool} {from : ℕ} → Says leaving line leaves → FirstLeaving leaves status.count from →
-      AskTakeOut b e j n leaves from status.count
-  take_out_asked says first =
-      let count = count_is in
-      record {
-        begins_long = timetable_long.begins_long;
-        ends_long = timetable_long.ends_long;
-        jobs_long = timetable_long.jobs_long;
-        notes_long = timetable_long.notes_long;
-        few = omega (arith, line_long st.rows, is.bounded.count);
-        leaves_long = omega (arith, says.long);
-        first = first;
-        costs_fit =
-            λ i h.
-            let there : i < length line = omega arith in
-            let row = get_or line i no_row in
-            omega (
-              arith,
-              ap (λ l. get_or l (i * note_size + 1) 0) is.notes_are,
-              ap (λ note. note.cost) (note_stands (last_finish st.rows) line i there),
-              (is.bounded.rows row (line_from st.rows (get_or_mem line i no_row there))).cost,
-            );
-      }
-
-  -- of a job's rows none leaves before the first that carries its number
-  pub place_first :
-      {number from : ℕ} {leaves : List Bool} → Says (of_job number) line leaves → PlaceOf j status.count number from →
-      FirstLeaving leaves status.count from
-  place_first {number} says place = record {
-    at_most = place.at_most;
-    none_before =
-        λ i h.
-        let there : i < length line = omega (arith, place.at_most, count_is) in
-        says.says i there ∙ ne_eqb _ number (λ same. place.none_before i h (job_at line is.jobs_are i there ∙ same));
-  }
-
-  -- Rows of whole jobs taken out.
-  module _
-      {leaving : Row → Bool} (whole : WholeJobs leaving st.rows) {leaves : List Bool} (says : Says leaving line leaves)
-      {b' e' j' n' : List ℕ} {left : Left} (taken : TakenOutIs b e j n leaves status.count b' e' j' n' left) where
-    abbrev rest : List Row
-    rest = keep (stay leaving) st.rows
-
-    pub notes_left : n' ≡ notes_of (last_finish st.rows) (line_of rest)
-    notes_left =
-        taken.notes_are line leaving (last_finish st.rows) count_is says blank is.notes_are
-        ∙ ap (notes_of (last_finish st.rows)) (line_keep (stay leaving) st.rows)
-
-    pub count_left : left.count ≡ length rest
-    count_left =
-        taken.count_is line leaving count_is says ∙ ap length (line_keep (stay leaving) st.rows) ∙ line_long rest
-
-    pub cost_left : left.cost ≡ costs (keep leaving st.rows)
-    cost_left =
-        taken.cost_is line leaving (last_finish st.rows) count_is says is.notes_are
-        ∙ ap costs (line_keep leaving st.rows)
-        ∙ line_costs (keep leaving st.rows)
-
-    -- the soonest end that is read off the notes that are left
-    pub soonest_noted : {soonest : ℕ} → SoonestIs n' left.count soonest → soonest ≡ soonest_end rest
-    soonest_noted found =
-        found (line_of rest) (last_finish st.rows) (line_long rest ∙ sym count_left) notes_left ∙ soonest_kept whole
-
-    pub removed :
-        (cal : Calendar) {clock soonest : ℕ} → clock ≡ cal.clock → soonest ≡ soonest_end rest → Bounded s (remove leaving (with_calendar cal st)) →
-        TimetableOf s (remove leaving (with_calendar cal st)) b' e' j' n'
-        (record { clock = clock; count = left.count; total = status.total - left.cost; soonest = soonest })
-    unfolding remove
-    removed cal clock_is soonest_is bounded =
-        let kept = line_keep (stay leaving) st.rows in
-        let total_left : status.total - left.cost ≡ st.total - costs (keep leaving st.rows)
-        = ap₂ (λ x y. x - y) (ap (λ x. x.total) is.status_is) cost_left in
-        record {
-          sound = is.sound;
-          bounded = bounded;
-          spans = record {
-            begins_are = taken.begins_are line leaving count_is says is.spans.begins_are ∙ ap (column row_begin) kept;
-            ends_are = taken.ends_are line leaving count_is says is.spans.ends_are ∙ ap (column row_end) kept;
-          };
-          jobs_are = taken.jobs_are line leaving count_is says is.jobs_are ∙ ap (column (λ row. row.job)) kept;
-          notes_are = notes_left ∙ notes_kept whole blank;
-          status_is = λ i. record { clock = clock_is i; count = count_left i; total = total_left i; soonest = soonest_is i };
-        }
-
-  -- what an accepted step leaves is bounded
-  left_bounded : {c : Call} {number : ℕ} {left : State} → StepIs s st c number left → Bounded s left
-  left_bounded {c} steps = subst (Bounded s) steps.left_is (bounded_step s is.sound st c is.bounded)
-
-  -- Withdrawals.
-  module _
-      (number : ℕ) {leaves : List Bool} (says : Says (of_job number) line leaves)
-      {b' e' j' n' : List ℕ} {left : Left} (taken : TakenOutIs b e j n leaves status.count b' e' j' n' left) where
-    -- the soonest end of the others, found from the soonest end of all and the job's own
-    pub soonest_left :
-        any_of (of_job number) st.rows ≡ true → {last soonest : ℕ} → last ≡ last_finish st.rows number →
-        SoonestLeft n' left.count status.soonest last soonest → soonest ≡ soonest_end (keep (stay (of_job number)) st.rows)
-    soonest_left held last_is found =
-        let others = keep (stay (of_job number)) st.rows in
-        let whole = whole_job number st.rows in
-        found
-        (line_of others)
-        (last_finish st.rows)
-        (line_long others ∙ sym (count_left whole says taken))
-        (notes_left whole says taken)
-        (ap (λ x. x.soonest) is.status_is ∙ soonest_without st.rows number held ∙ ap₂ min (sym last_is) (sym (soonest_kept whole)))
-        ∙ soonest_kept whole
-
-    pub withdrawn :
-        (soonest : ℕ) → soonest ≡ soonest_end (keep (stay (of_job number)) st.rows) → StepIs s st (withdraws number) 0 (withdraw st number) →
-        TimetableOf s (withdraw st number) b' e' j' n'
-        (record { clock = status.clock; count = left.count; total = status.total - left.cost; soonest = soonest })
-    unfolding withdraw remove
-    withdrawn soonest soonest_is steps =
-        removed (whole_job number st.rows) says taken st.calendar (ap (λ x. x.clock) is.status_is) soonest_is (left_bounded steps)
-
-  -- Clock moves.
-  module _ (tick : ℕ) where
-    pub advanced :
-        {leaves : List Bool} → Says (past st.rows tick) line leaves →
-        {b' e' j' n' : List ℕ} {left : Left} → TakenOutIs b e j n leaves status.count b' e' j' n' left →
-        (soonest : ℕ) → soonest ≡ soonest_end (keep (stay (past st.rows tick)) st.rows) → StepIs s st (advances tick) 0 (advance st tick) →
-        TimetableOf s (advance st tick) b' e' j' n'
-        (record { clock = tick; count = left.count; total = status.total - left.cost; soonest = soonest })
-    unfolding advance remove
-    advanced says taken soonest soonest_is steps =
-        removed
-        {leaving = row_ended st.rows tick}
-        (whole_by (λ job. ended tick (keep (of_job job) st.rows)) st.rows)
-        (record { long = says.long; says = λ k h. says.says k h ∙ ended_last st.rows (get_or line k no_row).job tick })
-        taken
-        (with_clock tick st.calendar)
-        refl
-        (soonest_is
-        ∙ ap
-        soonest_end
-        (keep_same
-        (stay (past st.rows tick))
-        (stay (row_ended st.rows tick))
-        st.rows
-        (λ row m. ap not (ended_last st.rows row.job tick))))
-        (left_bounded steps)
-
-    -- before the soonest end only the clock moves
-    pub quiet :
-        tick < status.soonest → StepIs s st (advances tick) 0 (advance st tick) →
-        TimetableOf s (advance st tick) b e j n (record { clock = tick; count = status.count; total = status.total; soonest = status.soonest })
-    unfolding advance
-    quiet early steps =
-        let at_tick : State = with_calendar (with_clock tick st.calendar) st in
-        let sooner : tick < soonest_end st.rows = rw (ap (λ x. x.soonest) is.status_is) at early in
-        let same : advance st tick ≡ at_tick = remove_none (row_ended st.rows tick) at_tick (none_ended st.rows tick sooner) in
-        let same_status = is.status_is in
-        rw same
-        (record {
-          sound = is.sound;
-          bounded = subst (Bounded s) same (left_bounded steps);
-          spans = is.spans;
-          jobs_are = is.jobs_are;
-          notes_are = is.notes_are;
-          status_is =
-              λ i. record {
-                clock = tick;
-                count = (same_status i).count;
-                total = (same_status i).total;
-                soonest = (same_status i).soonest;
-              };
-        })
+  pub few_left : t'.line.count ≤ row_limit
+  unfolding remove
+  few_left = omega (arith, ap (λ x. x.line.count) taken_is, length_keep (stay leaving) st.rows, is.bounded.count)

@@ -3,9 +3,12 @@ use mathlib.Core.Path.{◌≡◌, refl, ap, ◌∙◌}
 use mathlib.Core.Bool.{Bool, true, false, not, ◌&&◌}
 use Prim.Native.Nat.{ℕ, ◌≤◌, ◌<◌}
 use lib.Dec.{leb}
-use borrow.Author.Tests.{lt-ltb, le-ltb, ne_eqb}
+use borrow.Author.Tests.{lt-ltb, le-ltb}
 use Rattle.rules.specs.declared.Row.{Row}
 use Rattle.rules.specs.declared.Setup.{Setup}
+use Rattle.rules.specs.declared.answers.Refusal.{Refusal}
+use Rattle.rules.specs.declared.answers.Refusal.TheVariants as R
+use Rattle.rules.specs.Answers.{refused}
 use Rattle.rules.specs.Sequences.{any_of}
 use Rattle.rules.specs.Words.{State, view, of_job, horizon}
 use Rattle.rules.specs.Withdrawing.{withdraw, advance}
@@ -17,19 +20,29 @@ use Rattle.rules.proofs.Demand1.{judged_first, judged_passed}
 use Rattle.rules.proofs.Struck.{step_still}
 use Rattle.timetable.proofs.Lists.{any_keep}
 
--- a step that answers a number alone, and leaves a state
-pub record StepIs (s : Setup) (st : State) (c : Call) (number : ℕ) (left : State) : Type 0 where
-  pub answer_is : (step s st c).answer ≡ refusal number 0
-  pub left_is : (step s st c).left ≡ left
+-- no refusal is numbered as an acceptance
+not_accepted : (why : Refusal) → accepted (refused why) ≡ false
+not_accepted R.NumberOutOfRange = refl
+not_accepted R.Miscounted = refl
+not_accepted R.FigureOutOfRange = refl
+not_accepted R.BadMessages = refl
+not_accepted R.Held = refl
+not_accepted (R.Infeasible task) = refl
+not_accepted (R.Missed task) = refl
+not_accepted R.NoRoom = refl
+not_accepted R.NotHeld = refl
+not_accepted R.Begun = refl
+not_accepted R.ClockBack = refl
+not_accepted R.PastHorizon = refl
 
 -- the row is of the job, and starts at or before the clock
-abbrev pub begun : State → (n : ℕ) → Row → Bool
-begun st n row = of_job n row && leb row.start st.calendar.clock
+abbrev pub begun : (n clock : ℕ) → Row → Bool
+begun n clock row = of_job n row && leb row.start clock
 
 module _ (s : Setup) (st : State) where
-  -- a number that is not 0 says that all is left as it was
-  pub refused : (c : Call) {number : ℕ} → (step s st c).answer ≡ refusal number 0 → (number ≡ 0 → ⊥) → StepIs s st c number st
-  refused c {number} is ne = record { answer_is = is; left_is = step_still s st c (ap accepted is ∙ ne_eqb number 0 ne) }
+  -- a refusal leaves all as it was
+  pub refused_left : (c : Call) (why : Refusal) → (step s st c).answer ≡ refused why → (step s st c).left ≡ st
+  refused_left c why is = step_still s st c (ap accepted is ∙ not_accepted why)
 
   -- Withdrawals.
 
@@ -43,20 +56,20 @@ module _ (s : Setup) (st : State) where
       unfolding withdraw_tests
       held_passed = passed all_left (ap (λ b. refuse_if (not b)) held)
 
-      begun_is : any_of (λ row. leb row.start st.calendar.clock) ((view st).rows_of n) ≡ any_of (begun st n) st.rows
+      begun_is : any_of (λ row. leb row.start st.calendar.clock) ((view st).rows_of n) ≡ any_of (begun n st.calendar.clock) st.rows
       begun_is = any_keep (λ row. leb row.start st.calendar.clock) (of_job n) st.rows
 
-      pub withdraw_10 : any_of (begun st n) st.rows ≡ true → (step s st (withdraws n)).answer ≡ refusal 10 0
+      pub withdraw_10 : any_of (begun n st.calendar.clock) st.rows ≡ true → (step s st (withdraws n)).answer ≡ refusal 10 0
       unfolding step settle withdraw_answer withdraw_tests
       withdraw_10 some = judged_first _ (held_passed.first (here refl (ap refuse_if (begun_is ∙ some))))
 
-      pub withdraw_0 : any_of (begun st n) st.rows ≡ false → (step s st (withdraws n)).answer ≡ refusal 0 0
+      pub withdraw_0 : any_of (begun n st.calendar.clock) st.rows ≡ false → (step s st (withdraws n)).answer ≡ refusal 0 0
       unfolding step settle withdraw_answer withdraw_tests
       withdraw_0 none = judged_passed _ ((passed held_passed (ap refuse_if (begun_is ∙ none))).clear end)
 
-    pub withdraw_accepted : (step s st (withdraws n)).answer ≡ refusal 0 0 → StepIs s st (withdraws n) 0 (withdraw st n)
+    pub withdraw_left : (step s st (withdraws n)).answer ≡ refusal 0 0 → (step s st (withdraws n)).left ≡ withdraw st n
     unfolding step settle
-    withdraw_accepted is = record { answer_is = is; left_is = rw (ap (λ a. a.number) is) refl }
+    withdraw_left is = rw (ap (λ a. a.number) is) refl
 
   -- Clock moves.
 
@@ -78,6 +91,6 @@ module _ (s : Setup) (st : State) where
       unfolding step settle advance_answer advance_tests
       advance_0 within = judged_passed _ ((passed ahead_passed (ap refuse_if (le-ltb horizon tick within))).clear end)
 
-    pub advance_accepted : (step s st (advances tick)).answer ≡ refusal 0 0 → StepIs s st (advances tick) 0 (advance st tick)
+    pub advance_left : (step s st (advances tick)).answer ≡ refusal 0 0 → (step s st (advances tick)).left ≡ advance st tick
     unfolding step settle
-    advance_accepted is = record { answer_is = is; left_is = rw (ap (λ a. a.number) is) refl }
+    advance_left is = rw (ap (λ a. a.number) is) refl

@@ -1,61 +1,93 @@
--- Between functions: the columns and the status that stand for a state of the rules, and what a call over them gives.
-use Rattle.std.specs.Prelude.{◌≡◌, List, ℕ, ◌*◌, ◌≤◌, ◌<◌, length}
+-- Between functions: the timetable that stands for a state of the rules, and what a call over it gives.
+use Rattle.std.specs.Prelude.{◌≡◌, Bool, List, ℕ, ◌-◌, ◌≤◌, length, Some, Result, Ok, Err}
+use Rattle.rules.specs.declared.Row.{Row}
 use Rattle.rules.specs.declared.Setup.{Setup}
-use Rattle.rules.specs.Words.{State, largest_number, row_limit}
+use Rattle.rules.specs.declared.answers.Admission.{Admission}
+use Rattle.rules.specs.declared.answers.Refusal.{Refusal}
+use Rattle.rules.specs.Answers.{answered, refused}
+use Rattle.rules.specs.Words.{State, fresh, largest_number}
+use Rattle.rules.specs.Placing.{costs}
+use Rattle.rules.specs.Sequences.{keep}
 use Rattle.rules.specs.Bounds.{Sound, Bounded}
-use Rattle.rules.specs.Refusals.{Call, withdraws, advances, step, refusal}
-use Rattle.timeline.specs.RowLine.{spans_room, note_size, line_of, notes_of, SpansOf}
-use Rattle.timetable.specs.declared.Status.{Status}
-use Rattle.timetable.specs.declared.Outcome.{Outcome}
-use Rattle.timetable.specs.declared.withdrawal.Verdict.{Verdict}
+use Rattle.rules.specs.Refusals.{Call, withdraws, advances, refusal, step}
+use Rattle.timeline.specs.RowLine.{row_begin, row_end, line_of, column, notes_of, Says}
+use Rattle.timeline.specs.TakenOut.{FirstLeaving, left_of}
+use Rattle.timetable.specs.declared.Timetable.{Timetable}
 use Rattle.timetable.specs.Derived.{last_finish, soonest_end}
 use Rattle.timetable.specs.Marks.{JobsOf, PlaceOf}
 
--- the columns are those of the rows on the line, and the status is the state's
-pub record TimetableOf (s : Setup) (st : State) (begins ends jobs notes : List ℕ) (status : Status) : Type 0 where
+-- The one timetable of a state: all that it keeps is made of the rows, and what is not used is blank.
+abbrev pub timetable_of : State → Timetable
+timetable_of st = record {
+  line = record {
+    begins = column row_begin (line_of st.rows);
+    ends = column row_end (line_of st.rows);
+    count = length st.rows;
+  };
+  jobs = column (λ row. row.job) (line_of st.rows);
+  notes = notes_of (last_finish st.rows) (line_of st.rows);
+  clock = st.calendar.clock;
+  total = st.total;
+  soonest = soonest_end st.rows;
+}
+
+abbrev pub timetable_fresh : Timetable
+timetable_fresh = timetable_of fresh
+
+pub record TimetableOf (s : Setup) (st : State) (t : Timetable) : Type 0 where
   pub sound : Sound s
   pub bounded : Bounded s st
-  pub spans : SpansOf st.rows begins ends
-  pub jobs_are : JobsOf (line_of st.rows) jobs
-  pub notes_are : notes ≡ notes_of (last_finish st.rows) (line_of st.rows)
-  pub status_is :
-      status ≡ record { clock = st.calendar.clock; count = length st.rows; total = st.total; soonest = soonest_end st.rows }
+  pub is : t ≡ timetable_of st
 
-pub record AskTimetable (begins ends jobs notes : List ℕ) (status : Status) : Type 0 where
+pub record AskTimetable (t : Timetable) : Type 0 where
   pub setup : Setup
   pub state : State
-  pub is : TimetableOf setup state begins ends jobs notes status
-
--- the columns keep their lengths
-pub record Long (begins ends jobs notes : List ℕ) : Type 0 where
-  pub begins_long : length begins ≡ spans_room
-  pub ends_long : length ends ≡ spans_room
-  pub jobs_long : length jobs ≡ spans_room
-  pub notes_long : length notes ≡ spans_room * note_size
+  pub is : TimetableOf setup state t
 
 -- a call leaves the timetable of the state that the rules leave, and answers as they do
-pub record Goes (s : Setup) (st : State) (c : Call) (begins ends jobs notes : List ℕ) (r : Outcome) : Type 0 where
-  pub answer_is : r.answer ≡ (step s st c).answer
-  pub left : TimetableOf s (step s st c).left begins ends jobs notes r.status
+pub record Goes (s : Setup) (st : State) (c : Call) (t : Timetable) (r : Result Admission Refusal) : Type 0 where
+  pub answer_is : answered r ≡ (step s st c).answer
+  pub left : TimetableOf s (step s st c).left t
 
-pub record CallIs (c : Call) (begins ends jobs notes : List ℕ) (status : Status) (begins' ends' jobs' notes' : List ℕ) (r : Outcome) : Type 0 where
-  pub long : Long begins' ends' jobs' notes'
-  pub is : (s : Setup) (st : State) → TimetableOf s st begins ends jobs notes status → Goes s st c begins' ends' jobs' notes' r
+abbrev pub CallIs : Call → (old new : Timetable) → Result Admission Refusal → Type 0
+CallIs c old new r = (s : Setup) (st : State) → TimetableOf s st old → Goes s st c new r
 
--- what a withdrawal answers; where it is accepted, the number is one of a job, and its first row stands at the index
-pub record AskWithdrawal (jobs begins : List ℕ) (count : ℕ) : Type 0 where
-  pub jobs_long : length jobs ≡ spans_room
-  pub begins_long : length begins ≡ spans_room
-  pub few : count ≤ row_limit
-
-pub record WithdrawalIs (jobs begins : List ℕ) (status : Status) (number : ℕ) (r : Verdict) : Type 0 where
-  pub answer_is :
-      (s : Setup) (st : State) (ends notes : List ℕ) → TimetableOf s st begins ends jobs notes status →
-      (step s st (withdraws number)).answer ≡ refusal r.number 0
-  pub fits : r.number ≡ 0 → number ≤ largest_number
-  pub place : r.number ≡ 0 → PlaceOf jobs status.count number r.from
-  pub there : r.number ≡ 0 → r.from < status.count
+-- a withdrawal that the rules refuse so; where it is accepted, the number is one of a job, and its first row stands at the index
+pub record WithdrawalIs (t : Timetable) (number : ℕ) (r : Result ℕ Refusal) : Type 0 where
+  pub refuses : (why : Refusal) → r ≡ Err why → (s : Setup) (st : State) → TimetableOf s st t → (step s st (withdraws number)).answer ≡ refused why
+  pub accepts : (from : ℕ) → r ≡ Ok from → (s : Setup) (st : State) → TimetableOf s st t → answered (Ok (record { cost = 0; rows = 0 })) ≡ (step s st (withdraws number)).answer
+  pub fits : (from : ℕ) → r ≡ Ok from → number ≤ largest_number
+  pub place : (from : ℕ) → r ≡ Ok from → PlaceOf t.jobs t.line.count number (Some from)
 
 -- what a clock move answers
-abbrev pub AdvancementIs : (clock tick r : ℕ) → Type 0
-AdvancementIs clock tick r = (s : Setup) (st : State) → clock ≡ st.calendar.clock → (step s st (advances tick)).answer ≡ refusal r 0
+abbrev pub AdvancementIs : (clock tick : ℕ) → Result Unit Refusal → Type 0
+AdvancementIs clock tick r =
+    (s : Setup) (st : State) → clock ≡ st.calendar.clock → (step s st (advances tick)).answer ≡ elim r [ Ok x ↦ refusal 0 0 | Err why ↦ refused why ]
+
+-- Rows that leave.
+
+pub record AskTakeOut (t : Timetable) (leaves : List Bool) (from : ℕ) : Type 0 where
+  pub ask : AskTimetable t
+  pub first : FirstLeaving leaves t.line.count from
+  -- a test of the rows says which leave: so the total is at least their cost
+  pub leaving : Row → Bool
+  pub says : Says leaving (line_of ask.state.rows) leaves
+
+-- Whatever rows they are the columns of, and whichever leave: what is left is the columns of the others, and their cost is off the total. The clock and the
+-- soonest end are as before.
+pub record TakenOutIs (t : Timetable) (leaves : List Bool) (t' : Timetable) : Type 0 where
+  pub is :
+      (line : List Row) (leaving : Row → Bool) (last : ℕ → ℕ) → length line ≡ t.line.count → Says leaving line leaves → last 0 ≡ 0 →
+      t.line.begins ≡ column row_begin line → t.line.ends ≡ column row_end line → JobsOf line t.jobs → t.notes ≡ notes_of last line →
+      t' ≡ record {
+        line = record {
+          begins = column row_begin (left_of leaving line);
+          ends = column row_end (left_of leaving line);
+          count = length (left_of leaving line);
+        };
+        jobs = column (λ row. row.job) (left_of leaving line);
+        notes = notes_of last (left_of leaving line);
+        clock = t.clock;
+        total = t.total - costs (keep leaving line);
+        soonest = t.soonest;
+      }

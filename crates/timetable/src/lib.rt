@@ -1,30 +1,45 @@
-// A timetable that is lent as columns, and withdrawals and clock moves over it. A call answers as the rules do, and leaves the columns and the status of the
-// register that the rules leave; a call that is refused leaves all as it was.
+// A timetable: the spans of a register's rows on the timeline, for each the number of its job and what is noted of it, the clock and the total; and withdrawals
+// and clock moves over it. A call that is refused leaves it as it was.
 #![tactic(auto)]
 
-pub mod answers;
-pub mod clock;
-pub mod held;
-pub mod removal;
-pub mod withdrawal;
+mod calls;
+mod marks;
 
-use rules::{Answer, HORIZON};
+ghost use Rattle.std.specs.Prelude.{◌≡◌};
+ghost use Rattle.timetable.specs.Timetables.{timetable_fresh};
+
+use rules::HORIZON;
+use timeline::SPANS;
+use timeline::line::Timeline;
+use timeline::notes::{NO_NOTE, Note};
 
 // Past every tick that a call may name.
 pub const NEVER: u64 = HORIZON + 1;
 
-// What a register is beside its rows: its clock, how many rows it holds, their total, and the soonest tick at which a job has ended.
+// The spans, the number of each one's job, what is noted of each, the clock, the total of the rows' costs, and the soonest tick at which a job has ended. What is
+// not used is blank.
 #[derive(Clone, Copy)]
-pub struct Status {
+pub struct Timetable {
+    pub line: Timeline<SPANS>,
+    pub jobs: [u16; SPANS],
+    pub notes: [Note; SPANS],
     pub clock: u64,
-    pub count: usize,
     pub total: u64,
     pub soonest: u64,
 }
 
-// What a call comes to.
-#[derive(Clone, Copy)]
-pub struct Outcome {
-    pub answer: Answer,
-    pub status: Status,
+impl Timetable {
+    // That of a fresh register.
+    pub fn new() -> Self
+        ensures { result ≡ timetable_fresh }
+    {
+        Timetable {
+            line: Timeline::new(),
+            jobs: [0; SPANS],
+            notes: [NO_NOTE; SPANS],
+            clock: 0,
+            total: 0,
+            soonest: NEVER,
+        }
+    }
 }

@@ -1,10 +1,11 @@
--- `exports::register_write_job` meets its contract: the figures are all that the slice holds, and the default table has as many machines as the code says.
+-- `exports::register_write_job` meets its contract: the default table has as many machines as the code says.
 use Rattle.rules.specs.Words.{setup_by_default}
-use Rattle.texts.specs.Reader.{default_machines}
-use Rattle.texts.proofs.JobWriting.{whole_written}
 use Rattle.exports.proofs.register_write_job.Goals as goal
 
-pub returns : goal.returns
+pub returns-in-Ok : goal.returns-in-Ok
 unfolding setup_by_default
-returns c =
-    whole_written default_machines c.args.figures.now c.write_figures-written.ensures
+returns-in-Ok c = c.in-Ok.ensures
+
+pub returns-in-Err : goal.returns-in-Err
+unfolding setup_by_default
+returns-in-Err c = rw c.number.ensures c.in-Err.ensures

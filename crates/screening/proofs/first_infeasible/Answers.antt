@@ -1,26 +1,27 @@
 -- `screening::first_infeasible` meets its contract: none of the tasks passed is infeasible.
-use native.Mathlib.Omega.{arith}
-use Rattle.screening.proofs.Ranged.{none_first}
-use Rattle.screening.proofs.Feasible.{task_feasible, first_found, none_found}
+use lib.Seq.{take_all}
+use Rattle.rules.proofs.Order.{in_range_count}
+use Rattle.screening.proofs.Feasible.{task_asked, first_found, none_found}
 use Rattle.screening.proofs.first_infeasible.Goals as goal
 
+pub tasks_of-task-items-requires : goal.tasks_of-task-items-requires
+tasks_of-task-items-requires c = let ask = c.requires in (in_range_count ask.setup c.args.job.now ask.in_range).1
+
 pub infeasible-requires : goal.infeasible-requires
-infeasible-requires c = record { ask = c.requires; listed = c.loop-t-test.true }
+infeasible-requires c = task_asked c.tasks_of-task-items.ensures c.args.clock c.requires c.loop-index.index c.loop-index-test.true
 
 pub returns-then-infeasible : goal.returns-then-infeasible
-returns-then-infeasible c = first_found _ c.loop-t.invariant c.loop-t-test.true c.infeasible.ensures c.if-infeasible.true
-
-pub loop-t-preserved : goal.loop-t-preserved
-loop-t-preserved c = task_feasible _ c.loop-t.invariant c.loop-t-test.true c.infeasible.ensures c.if-infeasible.false
+returns-then-infeasible c =
+    first_found
+    c.tasks_of-task-items.ensures
+    c.args.clock
+    c.loop-index.index
+    c.loop-index-test.true
+    c.loop-index.invariant
+    c.infeasible.ensures
+    c.if-infeasible.true
 
 pub returns : goal.returns
-returns c = none_found _ c.loop-t.invariant c.loop-t-test.false
-
-pub loop-t-init : goal.loop-t-init
-loop-t-init c = none_first
-
-pub overflow_add-t : goal.overflow_add-t
-overflow_add-t c = omega arith
-
-pub loop-t-smaller : goal.loop-t-smaller
-loop-t-smaller c = omega arith
+returns c =
+    let whole = take_all c.loop-index.index c.tasks_of-task-items.result.now c.loop-index-test.false in
+    none_found c.tasks_of-task-items.ensures c.args.clock (rw whole at c.loop-index.invariant)

@@ -1,10 +1,9 @@
-use Prim.Native.Nat.{◌-◌}
-use Rattle.rules.specs.Refusals.{infeasible}
-use Rattle.screening.proofs.Ranged.{NoneOf}
+use mathlib.Core.Path.{◌≡◌}
+use mathlib.Core.Bool.{false}
+use lib.ListN.{take}
+use Rattle.std.specs.List.{list_any}
+use Rattle.screening.proofs.Feasible.{hopeless}
 use Rattle.screening.proofs.first_infeasible.Given as goal
 
-abbrev pub invariant-loop-t : goal.invariant-loop-t
-invariant-loop-t l = NoneOf l.row l.layout (λ s. infeasible s l.clock) l.layout.tasks l.t
-
-abbrev pub decreases-loop-t : goal.decreases-loop-t
-decreases-loop-t l = l.layout.tasks - l.t
+abbrev pub invariant-loop-index : goal.invariant-loop-index
+invariant-loop-index l = list_any (hopeless l.machines l.clock) (take l.index l.task-items) ≡ false

@@ -1,56 +1,34 @@
 -- `screening::infeasible` meets its contract: none of the machines passed ends in time.
 use native.Mathlib.Omega.{arith}
-use Rattle.screening.proofs.Ranged.{task_asked, run_asked, none_first}
-use Rattle.screening.proofs.Feasible.{task_listed, run_within, next_unable, next_late, next_ends, all_late}
+use borrow.Author.Tests.{tests}
+use mathlib.Core.Bool.{true, false}
+use mathlib.Core.List.{List}
+use Prim.Native.Nat.{ℕ}
+use lib.ListN.{take}
+use lib.Seq.{take_all}
+use Rattle.std.proofs.Common.{rules}
+use Rattle.std.proofs.lemmas.List.Folds.{list_any_at}
+use Rattle.screening.proofs.Feasible.{ends, unless_ends}
 use Rattle.screening.proofs.infeasible.Goals as goal
-
-pub run_of-run-requires : goal.run_of-run-requires
-run_of-run-requires c = run_asked (task_listed c.requires) c.loop-m-test.true
-
-pub loop-m-preserved-then-run-eq0 : goal.loop-m-preserved-then-run-eq0
-loop-m-preserved-then-run-eq0 c =
-    next_unable c.requires c.loop-m.invariant c.loop-m-test.true c.run_of-run.ensures c.if-run-eq0.true
-
-pub overflow_add-clock : goal.overflow_add-clock
-overflow_add-clock c =
-    omega (arith, run_within c.requires c.loop-m-test.true c.run_of-run.ensures)
 
 pub returns-then-clock-run : goal.returns-then-clock-run
 returns-then-clock-run c =
-    next_ends
-    c.requires
-    c.loop-m.invariant
-    c.loop-m-test.true
-    c.run_of-run.ensures
-    c.deadline_of-deadline.ensures
-    c.if-run-eq0.false
-    c.if-clock-run.true
-
-pub loop-m-preserved : goal.loop-m-preserved
-loop-m-preserved c =
-    next_late
-    c.requires
-    c.loop-m.invariant
-    c.loop-m-test.true
-    c.run_of-run.ensures
-    c.deadline_of-deadline.ensures
-    c.if-run-eq0.false
-    c.if-clock-run.false
+    let a = c.args in
+    unless_ends
+    a.clock
+    true
+    (omega arith)
+    (list_any_at
+    (ends a.clock a.task.now.deadline)
+    (take a.machines a.task.now.runs)
+    c.loop-run.run-index
+    0
+    c.loop-run-test.true
+    (search (rules, tests)))
 
 pub returns : goal.returns
-returns c = all_late c.requires c.loop-m.invariant c.loop-m-test.false
-
-pub deadline_of-deadline-requires : goal.deadline_of-deadline-requires
-deadline_of-deadline-requires c = task_asked (task_listed c.requires)
-
-pub loop-m-init : goal.loop-m-init
-loop-m-init c = none_first
-
-pub overflow_add-m : goal.overflow_add-m
-overflow_add-m c = omega arith
-
-pub loop-m-smaller-then-run-eq0 : goal.loop-m-smaller-then-run-eq0
-loop-m-smaller-then-run-eq0 c = omega arith
-
-pub loop-m-smaller : goal.loop-m-smaller
-loop-m-smaller c = omega arith
+returns c =
+    let a = c.args in
+    let runs : List ℕ = take a.machines a.task.now.runs in
+    let whole = take_all c.loop-run.run-index runs c.loop-run-test.false in
+    unless_ends a.clock false (omega arith) (rw whole at c.loop-run.invariant)

@@ -1,10 +1,9 @@
-use Prim.Native.Nat.{◌-◌}
-use Rattle.screening.proofs.Ranged.{NoneOf}
-use Rattle.screening.proofs.Feasible.{in_time}
+use mathlib.Core.Path.{◌≡◌}
+use mathlib.Core.Bool.{false}
+use lib.ListN.{take}
+use Rattle.std.specs.List.{list_any}
+use Rattle.screening.proofs.Feasible.{ends}
 use Rattle.screening.proofs.infeasible.Given as goal
 
-abbrev pub invariant-loop-m : goal.invariant-loop-m
-invariant-loop-m l = NoneOf l.row l.layout (in_time l.clock l.t) l.layout.machines l.m
-
-abbrev pub decreases-loop-m : goal.decreases-loop-m
-decreases-loop-m l = l.layout.machines - l.m
+abbrev pub invariant-loop-run : goal.invariant-loop-run
+invariant-loop-run l = list_any (ends l.clock l.task.deadline) (take l.run-index l.run-items) ≡ false

@@ -11,9 +11,3 @@ returns-then-input-gt-INPUT c =
     let a = c.args in
     let long : length a.output.now ≡ output_size = search rules in
     whole_run _ _ _ _ long c.put_too_long.auto.output (too_long a.input.now c.if-input-gt-INPUT.true c.put_too_long.ensures)
-
-pub returns : goal.returns
-returns c =
-    let a = c.args in
-    let long : length a.output.now ≡ output_size = search rules in
-    whole_run a.input.now _ _ _ long c.run_calls.auto.output c.run_calls.ensures

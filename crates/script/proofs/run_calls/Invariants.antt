@@ -4,8 +4,7 @@ use Rattle.script.proofs.Running.{Running}
 use Rattle.script.proofs.run_calls.Given as goal
 
 abbrev pub invariant-loop-at : goal.invariant-loop-at
-invariant-loop-at l =
-    Running l.input l.initial.output l.row l.own l.begins l.ends l.jobs l.notes l.status l.at l.output l.end
+invariant-loop-at l = Running l.input l.initial.output l.timetable l.at l.output l.end
 
 abbrev pub decreases-loop-at : goal.decreases-loop-at
 decreases-loop-at l = length l.input - l.at

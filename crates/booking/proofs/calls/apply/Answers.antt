@@ -1,5 +1,5 @@
-use Rattle.reservation.proofs.Demands.{demand_1_of_code}
+use Rattle.booking.proofs.Leaving.{untouched_by}
 use Rattle.booking.proofs.calls.apply.Goals as goal
 
 pub answered-requires : goal.answered-requires
-answered-requires c = (demand_1_of_code c.apply.ensures).untouched
+answered-requires c = untouched_by c.apply.ensures

@@ -1,109 +1,96 @@
--- `drcd::choice::choose` meets its contract: after m machines what is kept is the foremost of their good trials.
-use mathlib.Core.Path.{◌≡◌}
-use Prim.Native.Nat.{◌+◌, ◌<◌}
+-- `drcd::choice::choose` meets its contract: after each machine, what is kept is the foremost of the good trials so far.
+use mathlib.Core.Path.{◌≡◌, sym, ap, ◌∙◌}
+use Prim.Native.Nat.{◌+◌}
 use native.Mathlib.Omega.{arith}
-use Rattle.rules.specs.declared.Job.{Job}
-use Rattle.rules.specs.declared.Setup.{Setup}
-use Rattle.rules.specs.Words.{most_machines, task_of, run_time}
-use Rattle.rules.proofs.Sums.{index_below}
-use Rattle.drcd.specs.Given.{JobIs}
-use Rattle.drcd.proofs.Chosen.{its_figures, its_run, chosen_none, chosen_unable, chosen_asks, chosen_late, chosen_stays, chosen_taken}
-use Rattle.drcd.proofs.Chosen.{chosen_all, row_laid}
+use Rattle.std.proofs.Common.{Some, None}
+use Rattle.drcd.proofs.Chosen.{Chosen, displaces, turn_few, chosen_none, chosen_all, chosen_unable, chosen_asks, chosen_late, chosen_stays, chosen_taken}
 use Rattle.drcd.proofs.choice.choose.Goals as goal
-use Rattle.drcd.proofs.choice.choose.Goals.{After-run_of-run, In-loop-m}
+use Rattle.drcd.proofs.choice.choose.Goals.{Then-run-eq0, Then-task-best, Then-not-comes_first, In_default}
+use Rattle.drcd.proofs.choice.choose.Goals.{in_default-via-in-None-1, in_default-via-in-Some+else-not-comes_first}
 
--- what was read of the task
-run_read : (c : After-run_of-run) → let args = c.args in
-    (j : Job) (s : Setup) → JobIs s j args.row.now args.layout → args.turn.t < j.taskcount →
-    c.run_of-run.result ≡ run_time j (args.turn.t + 1) (c.loop-m.m + 1)
-run_read c j s is listed = c.run_of-run.ensures j (row_laid is) listed
+-- What is kept after a machine, by the four ways that a turn of the loop ends.
 
-deadline_read : (c : After-run_of-run) → let args = c.args in
-    (j : Job) (s : Setup) → JobIs s j args.row.now args.layout → args.turn.t < j.taskcount →
-    c.deadline_of-deadline.result ≡ (task_of j (args.turn.t + 1)).deadline
-deadline_read c j s is listed =
-    c.deadline_of-deadline.ensures j (row_laid is) listed
+unable :
+    (c : Then-run-eq0) →
+    Chosen c.args.setup.now c.args.job.now c.args.inputs.now.items c.args.line.now c.args.turn c.loop-machine.kept (c.loop-machine.machine + 1)
+unable c = chosen_unable c.requires c.loop-machine.invariant c.loop-machine-test.true c.if-run-eq0.true
 
-pub attempt-tried-requires : goal.attempt-tried-requires
-attempt-tried-requires c =
-    chosen_asks c.requires c.loop-m.invariant c.loop-m-test.true (run_read (goal.at.attempt-tried-requires c).After-run_of-run) c.if-run-eq0.false
+late :
+    (c : Then-task-best) →
+    Chosen c.args.setup.now c.args.job.now c.args.inputs.now.items c.args.line.now c.args.turn c.loop-machine.kept (c.loop-machine.machine + 1)
+late c = chosen_late c.requires c.loop-machine.invariant c.loop-machine-test.true c.if-run-eq0.false c.attempt-best.ensures c.if-task-best.true
 
-pub loop-m-preserved-then-run-eq0 : goal.loop-m-preserved-then-run-eq0
-loop-m-preserved-then-run-eq0 c =
-    chosen_unable c.requires c.loop-m.invariant c.loop-m-test.true (run_read (goal.at.loop-m-preserved-then-run-eq0 c).After-run_of-run) c.if-run-eq0.true
-
-pub loop-m-preserved-then-deadline-tried : goal.loop-m-preserved-then-deadline-tried
-loop-m-preserved-then-deadline-tried c =
-    chosen_late
-    c.requires
-    c.loop-m.invariant
-    c.loop-m-test.true
-    (run_read (goal.at.loop-m-preserved-then-deadline-tried c).After-run_of-run)
-    c.if-run-eq0.false
-    c.attempt-tried.ensures
-    (deadline_read (goal.at.loop-m-preserved-then-deadline-tried c).After-run_of-run)
-    c.if-deadline-tried.true
-
-pub loop-m-preserved-then-not-comes_first : goal.loop-m-preserved-then-not-comes_first
-loop-m-preserved-then-not-comes_first c =
+stays :
+    (c : Then-not-comes_first) →
+    Chosen c.args.setup.now c.args.job.now c.args.inputs.now.items c.args.line.now c.args.turn c.loop-machine.kept (c.loop-machine.machine + 1)
+stays c =
     chosen_stays
     c.requires
-    c.loop-m.invariant
-    c.loop-m-test.true
-    (run_read (goal.at.loop-m-preserved-then-not-comes_first c).After-run_of-run)
+    c.loop-machine.invariant
+    c.loop-machine-test.true
     c.if-run-eq0.false
-    c.attempt-tried.ensures
-    (deadline_read (goal.at.loop-m-preserved-then-not-comes_first c).After-run_of-run)
-    c.if-deadline-tried.false
-    c.comes_first.ensures
-    c.if-not-comes_first.true
+    c.attempt-best.ensures
+    c.if-task-best.false
+    (ap (displaces c.attempt-best.result) c.in-Some.is ∙ sym c.if-not-comes_first.ensures)
 
-pub loop-m-preserved : goal.loop-m-preserved
-loop-m-preserved c =
+taken :
+    (c : In_default) →
+    Chosen
+    c.args.setup.now
+    c.args.job.now
+    c.args.inputs.now.items
+    c.args.line.now
+    c.args.turn
+    (Some (record { machine = c.loop-machine.machine; best = c.attempt-best.result }))
+    (c.loop-machine.machine + 1)
+taken c =
     chosen_taken
     c.requires
-    c.loop-m.invariant
-    c.loop-m-test.true
-    (run_read (goal.at.loop-m-preserved c).After-run_of-run)
+    c.loop-machine.invariant
+    c.loop-machine-test.true
     c.if-run-eq0.false
-    c.attempt-tried.ensures
-    (deadline_read (goal.at.loop-m-preserved c).After-run_of-run)
-    c.if-deadline-tried.false
-    c.comes_first.ensures
-    c.if-not-comes_first.false
+    c.attempt-best.ensures
+    c.if-task-best.false
+    (elim c.in_default.branch [
+      | in_default-via-in-None-1 w ↦ let none : c.loop-machine.kept ≡ None = cc in ap (displaces c.attempt-best.result) none
+      | in_default-via-in-Some+else-not-comes_first w ↦ ap (displaces c.attempt-best.result) w.in-Some.is ∙ sym w.if-not-comes_first.ensures
+    ])
 
-machines_few : (c : In-loop-m) → c.loop-m.m < most_machines
-machines_few c = let ask = c.requires in index_below c.loop-m-test.true (its_figures ask).machines_at_most
+pub offset_bounds-job-turn : goal.offset_bounds-job-turn
+offset_bounds-job-turn c = omega (arith, turn_few c.requires)
 
-pub deadline_of-deadline-requires : goal.deadline_of-deadline-requires
-deadline_of-deadline-requires c = its_figures c.requires
+pub bounds-job-turn : goal.bounds-job-turn
+bounds-job-turn c = turn_few c.requires
 
-pub nothing-kept-requires : goal.nothing-kept-requires
-nothing-kept-requires c = tt
+pub loop-machine-init : goal.loop-machine-init
+loop-machine-init c = chosen_none c.requires
 
-pub loop-m-init : goal.loop-m-init
-loop-m-init c = chosen_none c.requires _ c.nothing-kept.ensures.found_value c.nothing-kept.ensures.attempt_bounds
+pub attempt-best-requires : goal.attempt-best-requires
+attempt-best-requires c = chosen_asks c.requires c.loop-machine.invariant c.loop-machine-test.true c.if-run-eq0.false
 
-pub run_of-run-requires : goal.run_of-run-requires
-run_of-run-requires c = its_run c.requires c.loop-m-test.true
+pub loop-machine-preserved-then-run-eq0 : goal.loop-machine-preserved-then-run-eq0
+loop-machine-preserved-then-run-eq0 c = unable (goal.at.loop-machine-preserved-then-run-eq0 c).Then-run-eq0
 
-pub overflow_add-m : goal.overflow_add-m
-overflow_add-m c = omega (arith, machines_few (goal.at.overflow_add-m c).In-loop-m)
+pub loop-machine-preserved-then-task-best : goal.loop-machine-preserved-then-task-best
+loop-machine-preserved-then-task-best c = late (goal.at.loop-machine-preserved-then-task-best c).Then-task-best
 
-pub loop-m-smaller-then-run-eq0 : goal.loop-m-smaller-then-run-eq0
-loop-m-smaller-then-run-eq0 c = omega (arith, c.loop-m-test.true)
+pub loop-machine-preserved-in-loop-machine : goal.loop-machine-preserved-in-loop-machine
+loop-machine-preserved-in-loop-machine c = stays (goal.at.loop-machine-preserved-in-loop-machine c).Then-not-comes_first
 
-pub loop-m-smaller-then-deadline-tried : goal.loop-m-smaller-then-deadline-tried
-loop-m-smaller-then-deadline-tried c = omega (arith, c.loop-m-test.true)
-
-pub comes_first-requires : goal.comes_first-requires
-comes_first-requires c = tt
-
-pub loop-m-smaller-then-not-comes_first : goal.loop-m-smaller-then-not-comes_first
-loop-m-smaller-then-not-comes_first c = omega (arith, c.loop-m-test.true)
-
-pub loop-m-smaller : goal.loop-m-smaller
-loop-m-smaller c = omega (arith, c.loop-m-test.true)
+pub loop-machine-preserved : goal.loop-machine-preserved
+loop-machine-preserved c = taken (goal.at.loop-machine-preserved c).In_default
 
 pub returns : goal.returns
-returns c = chosen_all c.requires c.loop-m.invariant c.loop-m-test.false
+returns c = chosen_all c.requires c.loop-machine.invariant (omega arith)
+
+pub returns-then-run-eq0 : goal.returns-then-run-eq0
+returns-then-run-eq0 c = chosen_all c.requires (unable (goal.at.returns-then-run-eq0 c).Then-run-eq0) (omega arith)
+
+pub returns-then-task-best : goal.returns-then-task-best
+returns-then-task-best c = chosen_all c.requires (late (goal.at.returns-then-task-best c).Then-task-best) (omega arith)
+
+pub returns-then-not-comes_first : goal.returns-then-not-comes_first
+returns-then-not-comes_first c = chosen_all c.requires (stays (goal.at.returns-then-not-comes_first c).Then-not-comes_first) (omega arith)
+
+pub returns-in_default : goal.returns-in_default
+returns-in_default c = chosen_all c.requires (taken (goal.at.returns-in_default c).In_default) (omega arith)

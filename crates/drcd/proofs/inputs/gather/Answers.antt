@@ -1,74 +1,56 @@
--- `drcd::inputs::gather` meets its contract: after i messages those of them that go into the task are gathered.
+-- `drcd::inputs::gather` meets its contract.
 use native.Mathlib.Omega.{arith}
-use Rattle.rules.specs.Words.{most_tasks}
-use Rattle.rules.specs.Bounds.{Between}
-use Rattle.figures.specs.Rows.{AskMessageFigure}
-use Rattle.drcd.proofs.JobFigures.{task_asked, message_asked, sender_within}
-use Rattle.drcd.proofs.Gathered.{gathered_none, gathered_other, gathered_more, gathered_all}
+use lib.ListN.{get_or}
+use Rattle.std.proofs.lemmas.List.{take_more, take_all}
+use Rattle.rules.specs.Words.{messages_of}
+use Rattle.drcd.specs.Trials.{no_message}
+use Rattle.drcd.proofs.Listed.{EndsWithin, tasks_few, messages_few, messages_listed, ends_at}
+use Rattle.drcd.proofs.Gathered.{gathered_none, gathered_other, gathered_more, gathered_few, sender_there}
 use Rattle.drcd.proofs.inputs.gather.Goals as goal
-use Rattle.drcd.proofs.inputs.gather.Goals.{After-sender_of-sender, In-loop-i, else-receiver-t, then-receiver-t}
+use Rattle.drcd.proofs.inputs.gather.Goals.{In-loop-message}
 
-asked : (c : In-loop-i) → AskMessageFigure c.args.layout.at c.loop-i.i
-asked c = message_asked c.requires.job c.loop-i-test.true
+ends : (c : In-loop-message) → EndsWithin (get_or (messages_of c.args.job.now) c.loop-message.message-index no_message)
+ends c = ends_at c.requires.job _ c.loop-message-test.true
 
-sender : (c : After-sender_of-sender) → Between 1 most_tasks c.sender_of-sender.result
-sender c =
-    sender_within c.requires.job c.loop-i-test.true c.sender_of-sender.ensures
+pub shared_ref_as_front-message-items : goal.shared_ref_as_front-message-items
+shared_ref_as_front-message-items c = messages_few c.requires.job
+
+pub loop-message-init : goal.loop-message-init
+loop-message-init c = rw c.new-inputs.ensures (gathered_none _ _)
+
+pub offset_bounds-message-items-message-index : goal.offset_bounds-message-items-message-index
+offset_bounds-message-items-message-index c = omega (arith, messages_listed c.requires.job)
 
 pub overflow_add-t : goal.overflow_add-t
-overflow_add-t c = let ask = c.requires in omega (arith, task_asked ask.job ask.listed)
+overflow_add-t c = omega (arith, c.requires.listed, tasks_few c.requires.job)
 
-pub put_input-requires : goal.put_input-requires
-put_input-requires c =
-    let inv = c.loop-i.invariant in
-    record { long = inv.long; within = omega (arith, inv.few, asked (goal.at.put_input-requires c).In-loop-i) }
+pub overflow_sub-message : goal.overflow_sub-message
+overflow_sub-message c = (ends (goal.at.overflow_sub-message c).In-loop-message).sender.first
 
-pub overflow_add-count : goal.overflow_add-count
-overflow_add-count c =
-    omega (arith, c.loop-i.invariant.few, asked (goal.at.overflow_add-count c).In-loop-i)
+pub offset_bounds-spots-message : goal.offset_bounds-spots-message
+offset_bounds-spots-message c = omega (arith, (ends (goal.at.offset_bounds-spots-message c).In-loop-message).sender.last)
 
-pub loop-i-preserved : goal.loop-i-preserved
-loop-i-preserved c =
-    let inv = c.loop-i.invariant in
-    let more = c.loop-i-test.true in
-    let receives = c.receiver_of-receiver.ensures in
-    elim c.if-receiver-t.branch [
-      | then-receiver-t w ↦ rw (w.inputs-is, w.count-is) (gathered_more inv more receives w.if-receiver-t.true w.sender_of-sender.ensures w.volume_of.ensures w.put_input.ensures)
-      | else-receiver-t w ↦ rw (w.inputs-is, w.count-is) (gathered_other inv more receives w.if-receiver-t.false)
-    ]
+pub bounds : goal.bounds
+bounds c = let e = ends (goal.at.bounds c).In-loop-message in omega arith
 
-pub loop-i-init : goal.loop-i-init
-loop-i-init c = gathered_none c.requires.long
+pub unreachable-requires : goal.unreachable-requires
+unreachable-requires c = sender_there c.requires _ c.loop-message-test.true c.if-message-t.false c.in_default.is
 
-pub receiver_of-receiver-requires : goal.receiver_of-receiver-requires
-receiver_of-receiver-requires c = asked (goal.at.receiver_of-receiver-requires c).In-loop-i
+pub push-requires : goal.push-requires
+push-requires c = (omega arith, omega (arith, gathered_few _ _ c.loop-message.invariant c.loop-message-test.true, messages_listed c.requires.job))
 
-pub sender_of-sender-requires : goal.sender_of-sender-requires
-sender_of-sender-requires c = asked (goal.at.sender_of-sender-requires c).In-loop-i
+pub loop-message-preserved-then-message-t : goal.loop-message-preserved-then-message-t
+loop-message-preserved-then-message-t c =
+    rw (take_more _ _ no_message c.loop-message-test.true) (gathered_other c.loop-message.invariant _ c.if-message-t.true)
 
-pub overflow_sub-s : goal.overflow_sub-s
-overflow_sub-s c = (sender (goal.at.overflow_sub-s c).After-sender_of-sender).first
-
-pub offset_bounds-machines-s : goal.offset_bounds-machines-s
-offset_bounds-machines-s c = omega (arith, sender (goal.at.offset_bounds-machines-s c).After-sender_of-sender)
-
-pub bounds-machines-s : goal.bounds-machines-s
-bounds-machines-s c = omega (arith, sender (goal.at.bounds-machines-s c).After-sender_of-sender)
-
-pub offset_bounds-finishes-s : goal.offset_bounds-finishes-s
-offset_bounds-finishes-s c = omega (arith, sender (goal.at.offset_bounds-finishes-s c).After-sender_of-sender)
-
-pub bounds-finishes-s : goal.bounds-finishes-s
-bounds-finishes-s c = omega (arith, sender (goal.at.bounds-finishes-s c).After-sender_of-sender)
-
-pub volume_of-requires : goal.volume_of-requires
-volume_of-requires c = asked (goal.at.volume_of-requires c).In-loop-i
-
-pub overflow_add-i : goal.overflow_add-i
-overflow_add-i c = omega (arith, asked (goal.at.overflow_add-i c).In-loop-i)
-
-pub loop-i-smaller : goal.loop-i-smaller
-loop-i-smaller c = omega (arith, c.loop-i-test.true)
+pub loop-message-preserved : goal.loop-message-preserved
+loop-message-preserved c =
+    let e = ends (goal.at.loop-message-preserved c).In-loop-message in
+    rw
+    (c.push.ensures.items, take_more _ _ no_message c.loop-message-test.true)
+    (gathered_more c.loop-message.invariant _ c.if-message-t.false e.sender c.in-Some.spot c.in-Some.is)
 
 pub returns : goal.returns
-returns c = gathered_all c.loop-i.invariant c.loop-i-test.false
+returns c = λ new stands.
+    let all = take_all _ (messages_of c.args.job.now) c.loop-message-test.false in
+    rw all at (c.loop-message.invariant.is new stands)

@@ -1,9 +1,7 @@
-use Prim.Native.Nat.{◌-◌}
+use Prim.Native.Nat.{◌+◌}
+use lib.ListN.{take}
 use Rattle.drcd.proofs.Gathered.{Gathered}
 use Rattle.drcd.proofs.inputs.gather.Given as goal
 
-abbrev pub invariant-loop-i : goal.invariant-loop-i
-invariant-loop-i l = Gathered l.row l.layout l.t l.machines l.finishes l.inputs l.count l.i
-
-abbrev pub decreases-loop-i : goal.decreases-loop-i
-decreases-loop-i l = l.layout.messages - l.i
+abbrev pub invariant-loop-message : goal.invariant-loop-message
+invariant-loop-message l = Gathered (l.t + 1) l.spots (take l.message-index l.message-items) l.inputs.items

@@ -1,9 +1,6 @@
-use Prim.Native.Nat.{◌-◌}
+use lib.ListN.{take}
 use Rattle.drcd.proofs.Waiting.{Waited}
 use Rattle.drcd.proofs.order.waiting.Given as goal
 
-abbrev pub invariant-loop-i : goal.invariant-loop-i
-invariant-loop-i l = Waited l.row l.layout l.machines l.waits l.i
-
-abbrev pub decreases-loop-i : goal.decreases-loop-i
-decreases-loop-i l = l.layout.messages - l.i
+abbrev pub invariant-loop-message : goal.invariant-loop-message
+invariant-loop-message l = Waited l.spots (take l.message-index l.message-items) l.waits

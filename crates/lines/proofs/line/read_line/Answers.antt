@@ -1,67 +1,59 @@
 -- `lines::line::read_line` meets its contract: each return is one of the line's tests.
-use mathlib.Core.Path.{sym, ◌∙◌}
-use Prim.Native.Nat.{◌+◌, ◌^◌, ◌<◌}
-use native.Mathlib.Omega.{arith}
-use lib.ListN.{drop}
+use mathlib.Core.Path.{◌≡◌, sym, ◌∙◌}
+use mathlib.Core.Bool.{true}
+use lib.ListN.{length, drop}
+use Rattle.std.proofs.lemmas.List.{take_rest}
+use Rattle.lines.specs.Lines.{begins}
 use Rattle.lines.specs.Parts.{NumberIs}
-use Rattle.lines.specs.DueLines.{due_of}
-use Rattle.lines.proofs.Lined.{part, key_size, Started, not_begun, key_within, ill_line, unfit_line, good_line, next_within}
+use Rattle.lines.specs.DueLines.{key_bytes, due_of}
+use Rattle.lines.proofs.Begun.{begins_is}
+use Rattle.lines.proofs.Lined.{not_begun, ill_line, unfit_line, good_line}
 use Rattle.lines.proofs.line.read_line.Goals as goal
-use Rattle.lines.proofs.line.read_line.Goals.{After-key_at-start, After-number-digits, Else-count-eq0}
+use Rattle.lines.proofs.line.read_line.Goals.{After-starts_with, Else-not-starts_with, After-number}
 
-started : (c : After-key_at-start) → let a = c.args in Started (due_of a.due) a.text.now a.at c.key_at-start.result
-started c = let a = c.args in record { is = rw (part a.text.now a.at) at c.key_at-start.ensures; some = (key_size a.due.key).0 }
+-- the key is looked for where the line begins
+began : (c : After-starts_with) → let a = c.args in begins (key_bytes a.due.key) (drop a.at a.text.now) ≡ c.starts_with.result
+began c = simp (take_rest, c.text-key.ensures, begins_is) at (sym c.starts_with.ensures.value)
 
--- what `number` found stands after the key
-found : (c : After-number-digits) → let a = c.args in
-    NumberIs (drop c.key_at-start.result (drop a.at a.text.now)) a.due.digits c.number-digits.result
-found c =
-    let a = c.args in
-    rw (part a.text.now a.at, part (drop a.at a.text.now) c.key_at-start.result) at c.number-digits.ensures
+has_begun : (c : Else-not-starts_with) → let a = c.args in begins (key_bytes a.due.key) (drop a.at a.text.now) ≡ true
+has_begun c = began (goal.at.Else-not-starts_with c).After-starts_with ∙ c.if-not-starts_with.false
 
-pub returns-then-start-eq0 : goal.returns-then-start-eq0
-returns-then-start-eq0 c = not_begun (started (goal.at.returns-then-start-eq0 c).After-key_at-start) c.if-start-eq0.true
+-- and the number after it
+found : (c : After-number) → let a = c.args in
+    NumberIs (drop (length (key_bytes a.due.key)) (drop a.at a.text.now)) a.due.digits c.number.result
+found c = simp (take_rest, c.text-key.ensures) at c.number.ensures
 
--- the key lies within what is left of the text
-pub slice_bounds-number-count : goal.slice_bounds-number-count
-slice_bounds-number-count c = let a = c.args in rw (part a.text.now a.at) (key_within (started (goal.at.slice_bounds-number-count c).After-key_at-start) c.if-start-eq0.false)
+pub returns-then-not-starts_with : goal.returns-then-not-starts_with
+returns-then-not-starts_with c =
+    not_begun (due_of c.args.due) _ _ (began (goal.at.returns-then-not-starts_with c).After-starts_with ∙ c.if-not-starts_with.true)
 
-pub slice_bounds-number-start : goal.slice_bounds-number-start
-slice_bounds-number-start c = slice_bounds-number-count c
-
-pub returns-then-count-eq0 : goal.returns-then-count-eq0
-returns-then-count-eq0 c = ill_line (started (goal.at.returns-then-count-eq0 c).After-key_at-start) c.if-start-eq0.false (found (goal.at.returns-then-count-eq0 c).After-number-digits) c.if-count-eq0.true
+pub returns-in_default : goal.returns-in_default
+returns-in_default c =
+    ill_line
+    (due_of c.args.due)
+    _
+    _
+    (has_begun (goal.at.returns-in_default c).Else-not-starts_with)
+    (rw c.in_default.is at (found (goal.at.returns-in_default c).After-number))
 
 pub returns-then-is_unfit : goal.returns-then-is_unfit
 returns-then-is_unfit c =
     unfit_line
-    (started (goal.at.returns-then-is_unfit c).After-key_at-start)
-    c.if-start-eq0.false
-    (found (goal.at.returns-then-is_unfit c).After-number-digits)
-    c.if-count-eq0.false
+    (due_of c.args.due)
+    _
+    _
+    (has_begun (goal.at.returns-then-is_unfit c).Else-not-starts_with)
+    (rw c.in-Some.is at (found (goal.at.returns-then-is_unfit c).After-number))
     (sym c.is_unfit.ensures ∙ c.if-is_unfit.true)
-
--- The figure is read, and fits.
-
-after_fits : (c : Else-count-eq0) → c.args.at + c.key_at-start.result + c.number-digits.result.count + 1 < 2 ^ 64
-after_fits c =
-    let within = next_within (started (goal.at.Else-count-eq0 c).After-key_at-start) c.if-start-eq0.false (found (goal.at.Else-count-eq0 c).After-number-digits) c.if-count-eq0.false c.requires.within in
-    omega (arith, c.well_formed)
 
 pub returns : goal.returns
 returns c =
-    good_line
-    (started (goal.at.returns c).After-key_at-start)
-    c.if-start-eq0.false
-    (found (goal.at.returns c).After-number-digits)
-    c.if-count-eq0.false
-    (sym c.is_unfit.ensures ∙ c.if-is_unfit.false)
-
-pub overflow_add-result : goal.overflow_add-result
-overflow_add-result c = omega (arith, after_fits (goal.at.overflow_add-result c).Else-count-eq0)
-
-pub overflow_add-result-2 : goal.overflow_add-result-2
-overflow_add-result-2 c = omega (arith, after_fits (goal.at.overflow_add-result-2 c).Else-count-eq0)
-
-pub overflow_add-result-3 : goal.overflow_add-result-3
-overflow_add-result-3 c = omega (arith, after_fits (goal.at.overflow_add-result-3 c).Else-count-eq0)
+    rw
+    c.text-key.ensures
+    (good_line
+    (due_of c.args.due)
+    _
+    _
+    (has_begun (goal.at.returns c).Else-not-starts_with)
+    (rw c.in-Some.is at (found (goal.at.returns c).After-number))
+    (sym c.is_unfit.ensures ∙ c.if-is_unfit.false))

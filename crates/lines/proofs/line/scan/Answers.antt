@@ -1,51 +1,64 @@
 -- `lines::line::scan` meets its contract: `count` digits have been read, and they say `value`.
-use Prim.Native.Nat.{◌^◌, ◌<◌}
+use mathlib.Core.Path.{◌≡◌, sym, ◌∙◌}
+use Prim.Native.Nat.{◌^◌, ◌≤◌, ◌<◌}
 use native.Mathlib.Omega.{arith}
+use lib.ListN.{length, get_or, take, length-take}
+use Rattle.std.proofs.lemmas.List.{get_or-take}
+use Rattle.lines.specs.Figures.{is_digit}
 use Rattle.lines.specs.Parts.{most_scanned}
-use Rattle.lines.proofs.Digits.{digit_below, digit_above}
-use Rattle.lines.proofs.Scanned.{scanned_none, scanned_more, scan_bound, scan_ends, scan_other, scan_many}
+use Rattle.lines.proofs.Digits.{ascii_digit}
+use Rattle.lines.proofs.Scanned.{scanned_more, scan_bound, scan_other, scan_all}
 use Rattle.lines.proofs.line.scan.Goals as goal
-use Rattle.lines.proofs.line.scan.Goals.{Else-byte-gt57}
+use Rattle.lines.proofs.line.scan.Goals.{In-loop-count, After-is_ascii_digit, Else-not-is_ascii_digit}
 
-pub loop-count-init : goal.loop-count-init
-loop-count-init c = scanned_none c.args.text.now c.args.most
+-- a byte is looked at
+module _ (c : In-loop-count) where
+  within : (c.loop-count.count < length c.args.text.now) × (c.loop-count.count ≤ c.args.most)
+  within =
+      let l = length-take c.min-looked_at.result c.args.text.now in
+      let m = c.min-looked_at.ensures in
+      let t = c.loop-count-test.true in
+      (omega arith, omega arith)
 
-pub returns-then-text-count : goal.returns-then-text-count
-returns-then-text-count c = scan_ends c.loop-count.invariant c.loop-count-test.true c.if-text-count.true
+  byte_is : get_or (take c.min-looked_at.result c.args.text.now) c.loop-count.count 0 ≡ get_or c.args.text.now c.loop-count.count 0
+  byte_is =
+      get_or-take
+      c.min-looked_at.result
+      c.args.text.now
+      c.loop-count.count
+      0
+      (omega (arith, length-take c.min-looked_at.result c.args.text.now, c.loop-count-test.true))
 
--- A byte stands at the place that is due.
+  bound : c.loop-count.value < 10 ^ most_scanned
+  bound = scan_bound c.loop-count.invariant (omega (arith, within, c.requires))
 
-pub returns-then-byte-lt48 : goal.returns-then-byte-lt48
-returns-then-byte-lt48 c =
-    scan_other c.loop-count.invariant c.loop-count-test.true c.if-text-count.false (digit_below _ c.if-byte-lt48.true)
+-- whether it is a digit
+tested : (c : After-is_ascii_digit) → is_digit (get_or c.args.text.now c.loop-count.count 0) ≡ c.is_ascii_digit.result
+tested c = rw (← byte_is (goal.at.After-is_ascii_digit c).In-loop-count) (sym (c.is_ascii_digit.ensures.value ∙ ascii_digit _))
 
-pub returns-then-byte-gt57 : goal.returns-then-byte-gt57
-returns-then-byte-gt57 c =
-    scan_other c.loop-count.invariant c.loop-count-test.true c.if-text-count.false (digit_above _ c.if-byte-gt57.true)
-
--- The byte is a digit.
-
-bound : (c : Else-byte-gt57) → c.loop-count.value < 10 ^ most_scanned
-bound c =
-    scan_bound c.loop-count.invariant c.loop-count-test.true c.requires
+pub returns-then-not-is_ascii_digit : goal.returns-then-not-is_ascii_digit
+returns-then-not-is_ascii_digit c =
+    let its = within (goal.at.returns-then-not-is_ascii_digit c).In-loop-count in
+    scan_other c.loop-count.invariant its.1 its.0 (tested (goal.at.returns-then-not-is_ascii_digit c).After-is_ascii_digit ∙ c.if-not-is_ascii_digit.true)
 
 pub loop-count-preserved : goal.loop-count-preserved
 loop-count-preserved c =
     rw
-    c.wide.ensures
-    (scanned_more c.loop-count.invariant c.loop-count-test.true c.if-text-count.false c.if-byte-lt48.false (omega (arith, c.if-byte-gt57.false)))
+    (c.from.ensures, byte_is (goal.at.loop-count-preserved c).In-loop-count)
+    (scanned_more
+    c.loop-count.invariant
+    (within (goal.at.loop-count-preserved c).In-loop-count).0
+    (tested (goal.at.loop-count-preserved c).After-is_ascii_digit ∙ c.if-not-is_ascii_digit.false))
 
 pub returns : goal.returns
-returns c = scan_many c.loop-count.invariant c.loop-count-test.false
+returns c =
+    let m = c.min-looked_at.ensures in
+    let l = length-take c.min-looked_at.result c.args.text.now in
+    let all : c.loop-count.count ≡ c.min-looked_at.result = omega arith in
+    rw (← all) (scan_all c.loop-count.invariant (omega arith))
 
 pub overflow_mul-value : goal.overflow_mul-value
-overflow_mul-value c = omega (arith, bound (goal.at.overflow_mul-value c).Else-byte-gt57)
+overflow_mul-value c = omega (arith, bound (goal.at.overflow_mul-value c).In-loop-count)
 
 pub overflow_add-value : goal.overflow_add-value
-overflow_add-value c = omega (arith, bound (goal.at.overflow_add-value c).Else-byte-gt57, c.wide.ensures)
-
-pub overflow_add-count : goal.overflow_add-count
-overflow_add-count c = omega arith
-
-pub loop-count-smaller : goal.loop-count-smaller
-loop-count-smaller c = omega arith
+overflow_add-value c = omega (arith, bound (goal.at.overflow_add-value c).In-loop-count)

@@ -1,10 +1,8 @@
--- `placement::bookings::task_entry` meets its contract: in range, each figure fits, and so does the cost.
-use native.Mathlib.Omega.{arith}
-use Rattle.placement.proofs.Booked.{task_cost_at_most, task_made_is}
+-- `placement::bookings::task_entry` meets its contract: with the machine's rate and the run time the row is the rules' one.
+use Rattle.std.proofs.Common.{refl, add_assoc}
+use Rattle.rules.specs.Words.{held_by}
 use Rattle.placement.proofs.bookings.task_entry.Goals as goal
 
 pub returns : goal.returns
-returns c = task_made_is c.requires c.rate_of.ensures c.label.ensures
-
-pub overflow_mul-result : goal.overflow_mul-result
-overflow_mul-result c = omega (arith, task_cost_at_most c.requires c.rate_of.ensures)
+unfolding held_by
+returns c j runs = rw (add_assoc, c.rate.ensures, runs) refl

@@ -4,15 +4,12 @@ use Rattle.reservation.proofs.Values.{kept_fields}
 use Rattle.reservation.proofs.Leaving.{clock_move_leaves}
 use Rattle.reservation.proofs.Register.advance.Goals as goal
 
-pub advance-outcome-requires : goal.advance-outcome-requires
-advance-outcome-requires c = record { setup = _; state = _; is = (kept_fields c.self.invariant c.self.view_is).timetable }
-
 pub left_after-requires : goal.left_after-requires
 left_after-requires c =
     let of = kept_fields c.self.invariant c.self.view_is in
-    record { call = advances _; goes = c.advance-outcome.ensures.is _ _ of.timetable; leaves = clock_move_leaves _ _ _ }
+    record { call = advances _; goes = c.advance-answer.ensures _ _ of.timetable; leaves = clock_move_leaves _ _ _ }
 
 pub returns : goal.returns
 returns c =
     let of = kept_fields c.self.invariant c.self.view_is in
-    c.left_after.ensures (advances _) (c.advance-outcome.ensures.is _ _ of.timetable) (clock_move_leaves _ _ _)
+    c.left_after.ensures (advances _) (c.advance-answer.ensures _ _ of.timetable) (clock_move_leaves _ _ _)

@@ -4,16 +4,16 @@ use Prim.Native.Nat.{◌<◌}
 use native.Mathlib.Omega.{arith}
 use Rattle.rules.specs.Laws.{IsMachine}
 use Rattle.reservation.proofs.Values.{kept_fields}
-use Rattle.reservation.proofs.Sighted.{sees_no_machine, sees_past, sees_none, sees_its_row, ends_asked, label_there}
+use Rattle.reservation.proofs.Sighted.{sees_no_machine, sees_past, sees_none, sees_its_row, ends_asked}
 use Rattle.reservation.proofs.Register.look.Goals as goal
-use Rattle.reservation.proofs.Register.look.Goals.{Else-at-count, Else-self-machine, then-at-count-via-then-at-count, then-at-count-via-else-at-count+then-place-self}
+use Rattle.reservation.proofs.Register.look.Goals.{Else-at-count, Else-self-machine, then-at-count-via-then-at-count, then-at-count-via-else-at-count+then-place-span}
 
 is_machine : (c : Else-self-machine) → IsMachine c.self.inside.setup c.args.machine
 is_machine c = record { first = c.if-machine-lt1.false; last = c.if-self-machine.false }
 
 -- there is a span that ends after the tick
-below : (c : Else-at-count) → c.first_after-at.result < c.self.inside.status.count
-below c = let most = c.first_after-at.ensures.at_most in omega (arith, c.if-at-count.false)
+below : (c : Else-at-count) → c.first_after-at.result < c.self.inside.timetable.line.count
+below c = let most = c.first_after-at.ensures.at_most in omega (arith, c.if-at-count.false, c.count.ensures)
 
 pub returns-then-machine-lt1 : goal.returns-then-machine-lt1
 returns-then-machine-lt1 c =
@@ -25,7 +25,7 @@ returns-then-tick-gt-HORIZON c =
     rw (← c.self.view_is) (sees_past _ _ _ of (is_machine (goal.at.returns-then-tick-gt-HORIZON c).Else-self-machine) c.if-tick-gt-HORIZON.true)
 
 pub first_after-at-requires : goal.first_after-at-requires
-first_after-at-requires c = ends_asked (kept_fields c.self.invariant refl)
+first_after-at-requires c = (omega arith, ends_asked (kept_fields c.self.invariant refl))
 
 pub returns-then-at-count : goal.returns-then-at-count
 returns-then-at-count c =
@@ -33,12 +33,9 @@ returns-then-at-count c =
     rw (← c.self.view_is)
     (sees_none _ _ _ of (is_machine (goal.at.returns-then-at-count c).Else-self-machine) c.first_after-at.ensures
     (λ some. elim c.then-at-count.branch [
-      | then-at-count-via-then-at-count w ↦ let none = w.if-at-count.true in absurd (omega arith)
-      | then-at-count-via-else-at-count+then-place-self w ↦ w.if-place-self.true
+      | then-at-count-via-then-at-count w ↦ absurd (omega (arith, w.if-at-count.true, c.count.ensures))
+      | then-at-count-via-else-at-count+then-place-span w ↦ rw w.span.ensures at w.if-place-span.true
     ]))
-
-pub row_of-requires : goal.row_of-requires
-row_of-requires c = label_there (kept_fields c.self.invariant refl) (below (goal.at.row_of-requires c).Else-at-count) c.note_at-note.ensures
 
 pub returns : goal.returns
 returns c =
@@ -52,6 +49,6 @@ returns c =
     c.first_after-at.ensures
     c.if-tick-gt-HORIZON.false
     (below (goal.at.returns c).Else-at-count)
-    c.if-place-self.false
-    c.note_at-note.ensures
-    c.row_of.ensures)
+    (rw c.span.ensures at c.if-place-span.false)
+    c.span-begin.ensures
+    c.row.ensures)

@@ -4,15 +4,12 @@ use Rattle.reservation.proofs.Values.{kept_fields}
 use Rattle.reservation.proofs.Leaving.{withdrawal_leaves}
 use Rattle.reservation.proofs.Register.withdraw.Goals as goal
 
-pub withdraw-outcome-requires : goal.withdraw-outcome-requires
-withdraw-outcome-requires c = record { setup = _; state = _; is = (kept_fields c.self.invariant c.self.view_is).timetable }
-
 pub left_after-requires : goal.left_after-requires
 left_after-requires c =
     let of = kept_fields c.self.invariant c.self.view_is in
-    record { call = withdraws _; goes = c.withdraw-outcome.ensures.is _ _ of.timetable; leaves = withdrawal_leaves _ _ _ }
+    record { call = withdraws _; goes = c.withdraw-answer.ensures _ _ of.timetable; leaves = withdrawal_leaves _ _ _ }
 
 pub returns : goal.returns
 returns c =
     let of = kept_fields c.self.invariant c.self.view_is in
-    c.left_after.ensures (withdraws _) (c.withdraw-outcome.ensures.is _ _ of.timetable) (withdrawal_leaves _ _ _)
+    c.left_after.ensures (withdraws _) (c.withdraw-answer.ensures _ _ of.timetable) (withdrawal_leaves _ _ _)

@@ -1,9 +1,5 @@
-use Prim.Native.Nat.{◌-◌}
-use Rattle.screening.proofs.Ascending.{AllAscend}
+use Rattle.screening.proofs.Ascending.{Ascends}
 use Rattle.screening.proofs.messages.bad_messages.Given as goal
 
-abbrev pub invariant-loop-i : goal.invariant-loop-i
-invariant-loop-i l = AllAscend l.row l.layout l.last l.i
-
-abbrev pub decreases-loop-i : goal.decreases-loop-i
-decreases-loop-i l = l.layout.messages - l.i
+abbrev pub invariant-loop-msg : goal.invariant-loop-msg
+invariant-loop-msg l = Ascends l.job l.last l.msg-index

@@ -1,59 +1,44 @@
 -- `texts::forms::fills_form` meets its contract: a turn tests one figure.
-use mathlib.Core.Path.{◌≡◌, sym, ◌∙◌}
-use mathlib.Core.Bool.{true}
-use mathlib.Core.List.{[]}
+use mathlib.Core.Path.{sym, ap, ◌∙◌}
+use mathlib.Core.List.{List}
 use Prim.Native.Nat.{ℕ}
 use native.Mathlib.Omega.{arith}
-use lib.ListN.{get_or}
-use Rattle.lines.specs.Lines.{takes}
 use Rattle.lines.specs.DueLines.{due_of}
-use Rattle.texts.specs.Stages.{form_at}
-use Rattle.texts.specs.Parts.{Asks}
+use Rattle.texts.specs.Parts.{form_left}
 use Rattle.lines.proofs.LineLaws.{fits_takes}
-use Rattle.texts.proofs.Staged.{stage_asks, stage_done, ask_next}
-use Rattle.texts.proofs.Writing.{stage_filled, walk_none, walk_over, walk_unfit, walk_long, walk_more, walk_filled}
+use Rattle.texts.proofs.Writing.{Walk, walk_over, walk_unfit, walk_long, walk_more, walk_filled, left_filled}
+use Rattle.texts.proofs.forms.fills_form.Given.{Over}
 use Rattle.texts.proofs.forms.fills_form.Goals as goal
-use Rattle.texts.proofs.forms.fills_form.Goals.{After-due_at-due, Else-due-width}
+use Rattle.texts.proofs.forms.fills_form.Goals.{In-Some, After-width, then-is_unfit-via-then-is_unfit, then-is_unfit-via-else-is_unfit+then-due-width}
 
-abbrev figure : After-due_at-due → ℕ
-figure c = get_or c.args.row.now c.loop-i.i 0
+-- the figures so far, with the form that is left at this line
+so_far : (g : Over) (c : In-Some g) →
+    let form = g.L.FormLine.form c.args.machines in
+    (lines : List ℕ) × Walk (form c.args.first) c.args.figures.now (form c.in-Some.here) c.loop-figure.figure-index lines
+so_far g c = rw c.in-Some.is at c.loop-figure.invariant
 
-asked : (c : After-due_at-due) → Asks (form_at c.args.machines c.loop-i.stage) c.due_at-due.result
-asked c =
-    (stage_asks c.args.machines c.loop-i.stage (sym c.is_over.ensures ∙ c.if-is_over.false) c.due_at-due.ensures).0
-
-pub returns-then-is_over : goal.returns-then-is_over
-returns-then-is_over c =
-    let over = stage_done c.args.machines c.loop-i.stage (sym c.is_over.ensures ∙ c.if-is_over.true) in
-    sym (walk_over c.loop-i.invariant.1 c.requires.within c.loop-i-test.true over)
+pub returns-in_default : goal.returns-in_default
+returns-in_default g c =
+    sym (walk_over c.loop-figure.invariant.1 c.loop-figure-test.true (ap (form_left (g.L.FormLine.form c.args.machines)) c.in_default.is))
 
 pub returns-then-is_unfit : goal.returns-then-is_unfit
-returns-then-is_unfit c =
-    let unfit = sym c.is_unfit.ensures ∙ c.if-is_unfit.true in
-    sym (walk_unfit c.loop-i.invariant.1 c.requires.within c.loop-i-test.true (asked (goal.at.returns-then-is_unfit c).After-due_at-due) unfit)
+returns-then-is_unfit g c =
+    let walk = (so_far g (goal.at.returns-then-is_unfit g c).In-Some).1 in
+    let due = c.due-due.ensures c.args.machines in
+    elim c.then-is_unfit.branch [
+      | then-is_unfit-via-then-is_unfit w ↦ sym (walk_unfit walk c.loop-figure-test.true due (sym w.if-is_unfit.ensures))
+      | then-is_unfit-via-else-is_unfit+then-due-width w ↦
+          let l = w.width.ensures in let h = w.if-due-width.true in sym (walk_long walk c.loop-figure-test.true due (omega arith))
+    ]
 
-pub returns-then-due-width : goal.returns-then-due-width
-returns-then-due-width c =
+pub loop-figure-preserved : goal.loop-figure-preserved
+loop-figure-preserved g c =
     let w = c.width.ensures in
-    sym (walk_long c.loop-i.invariant.1 c.requires.within c.loop-i-test.true (asked (goal.at.returns-then-due-width c).After-due_at-due) (omega arith))
-
-taken : (c : Else-due-width) → takes (due_of c.due_at-due.result) (figure (goal.at.Else-due-width c).After-due_at-due) ≡ true
-taken c =
-    let w = c.width.ensures in
-    let fit = sym c.is_unfit.ensures ∙ c.if-is_unfit.false in
-    fits_takes {due = due_of c.due_at-due.result} {n = figure (goal.at.Else-due-width c).After-due_at-due} (record { in_range = fit; short = omega arith })
-
-pub stage_after-stage-requires : goal.stage_after-stage-requires
-stage_after-stage-requires c = ask_next c.requires.some_machine (asked (goal.at.stage_after-stage-requires c).After-due_at-due) (taken (goal.at.stage_after-stage-requires c).Else-due-width)
-
-pub loop-i-preserved : goal.loop-i-preserved
-loop-i-preserved c =
-    (_, walk_more c.loop-i.invariant.1 c.requires.within c.loop-i-test.true (asked (goal.at.loop-i-preserved c).After-due_at-due) (taken (goal.at.loop-i-preserved c).Else-due-width) c.stage_after-stage.ensures)
+    let h = c.if-due-width.false in
+    let taken = fits_takes {due = due_of c.due-due.result} (record { in_range = sym c.if-is_unfit.ensures; short = omega arith }) in
+    (_, walk_more (so_far g (goal.at.loop-figure-preserved g c).In-Some).1 c.loop-figure-test.true (c.due-due.ensures c.args.machines) taken c.after-place.ensures)
 
 pub returns : goal.returns
-returns c =
-    let filled = walk_filled c.loop-i.invariant.1 c.loop-i-test.false in
-    c.is_over-2.ensures ∙ sym (filled ∙ stage_filled c.args.machines c.loop-i.stage)
-
-pub loop-i-init : goal.loop-i-init
-loop-i-init c = ([], walk_none _ _ _)
+returns g c =
+    left_filled _ c.loop-figure.place c.is_none.result (g.met.L.FormLine.due_there c.args.machines) c.is_none.ensures
+    ∙ sym (walk_filled c.loop-figure.invariant.1 c.loop-figure-test.false)

@@ -1,10 +1,8 @@
-use Prim.Native.Nat.{◌-◌}
-use Rattle.texts.specs.Stages.{form_at}
+use Rattle.texts.specs.Parts.{form_left}
 use Rattle.texts.proofs.Writing.{Measured}
 use Rattle.texts.proofs.forms.form_length.Given as goal
 
-abbrev pub invariant-loop-i : goal.invariant-loop-i
-invariant-loop-i l = Measured (form_at l.machines l.initial.stage) l.row l.count (form_at l.machines l.stage) l.i l.length
-
-abbrev pub decreases-loop-i : goal.decreases-loop-i
-decreases-loop-i l = l.count - l.i
+abbrev pub invariant-loop-figure : goal.invariant-loop-figure
+invariant-loop-figure g l =
+    let form = g.L.FormLine.form l.machines in
+    Measured (form l.fn.first) l.figures (form_left form l.place) l.figure-index l.length

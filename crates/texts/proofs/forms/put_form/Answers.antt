@@ -1,39 +1,51 @@
 -- `texts::forms::put_form` meets its contract: a turn writes one line.
+use mathlib.Core.Path.{◌≡◌, ap}
+use mathlib.Core.Bool.{true}
 use lib.ListN.{get_or}
-use Rattle.texts.specs.Stages.{form_at}
+use Rattle.lines.specs.Lines.{takes}
+use Rattle.lines.specs.DueLines.{due_of}
+use Rattle.texts.specs.Parts.{form_left}
 use Rattle.texts.proofs.Staged.{ask_next}
-use Rattle.texts.proofs.Writing.{Accepts, walk_due, wrote_none, wrote_room, wrote_more, wrote_all}
+use Rattle.texts.proofs.Writing.{Wrote, walk_taken, walk_goes_on, wrote_room, wrote_more, wrote_all}
+use Rattle.texts.proofs.forms.put_form.Given.{Over}
 use Rattle.texts.proofs.forms.put_form.Goals as goal
-use Rattle.texts.proofs.forms.put_form.Goals.{After-due_at-due}
+use Rattle.texts.proofs.forms.put_form.Goals.{In-Some, After-due}
 
-accepts : (c : After-due_at-due) →
-    Accepts
-    (form_at c.args.machines c.loop-i.stage)
-    c.due_at-due.result
-    (get_or c.args.row.now c.loop-i.i 0)
-accepts c =
-    walk_due c.loop-i.stage c.requires.0 c.loop-i.invariant.walk c.loop-i-test.true c.due_at-due.ensures
+-- the lines so far, with the form that is left at this one
+so_far : (g : Over) (c : In-Some g) →
+    let form = g.L.FormLine.form c.args.machines in
+    Wrote (form c.args.first) c.args.figures.now (form c.in-Some.here) c.loop-figure.figure-index c.args.output.now c.loop-figure.output c.loop-figure.at
+so_far g c = rw c.in-Some.is at c.loop-figure.invariant
+
+taken : (g : Over) (c : After-due g) → takes (due_of c.due.result) (get_or c.args.figures.now c.loop-figure.figure-index 0) ≡ true
+taken g c = walk_taken (so_far g (goal.at.After-due g c).In-Some).walk c.loop-figure-test.true (c.due.ensures c.args.machines) c.requires.figures.fills_it
+
+pub unreachable-requires : goal.unreachable-requires
+unreachable-requires g c =
+    walk_goes_on c.loop-figure.invariant.walk c.loop-figure-test.true c.requires.figures.fills_it (ap (form_left (g.L.FormLine.form c.args.machines)) c.in_default.is)
 
 pub put_line-at-requires : goal.put_line-at-requires
-put_line-at-requires c =
-    wrote_room c.loop-i.invariant c.requires.1 c.requires.0.walk.within c.loop-i-test.true (accepts (goal.at.put_line-at-requires c).After-due_at-due)
+put_line-at-requires g c =
+    wrote_room
+    (so_far g (goal.at.put_line-at-requires g c).In-Some)
+    c.requires.room
+    c.loop-figure-test.true
+    (c.due.ensures c.args.machines)
+    (taken g (goal.at.put_line-at-requires g c).After-due)
 
-pub stage_after-stage-requires : goal.stage_after-stage-requires
-stage_after-stage-requires c = let l = accepts (goal.at.stage_after-stage-requires c).After-due_at-due in ask_next c.requires.0.walk.some_machine l.asks l.taken
+pub after-place-requires : goal.after-place-requires
+after-place-requires g c = ask_next c.requires.figures.some_machine (c.due.ensures _) (taken g (goal.at.after-place-requires g c).After-due)
 
-pub loop-i-preserved : goal.loop-i-preserved
-loop-i-preserved c =
+pub loop-figure-preserved : goal.loop-figure-preserved
+loop-figure-preserved g c =
     wrote_more
-    c.loop-i.invariant
-    c.requires.1
-    c.requires.0.walk.within
-    c.loop-i-test.true
-    (accepts (goal.at.loop-i-preserved c).After-due_at-due)
-    c.stage_after-stage.ensures
+    (so_far g (goal.at.loop-figure-preserved g c).In-Some)
+    c.requires.room
+    c.loop-figure-test.true
+    (c.due.ensures c.args.machines)
+    (taken g (goal.at.loop-figure-preserved g c).After-due)
+    c.after-place.ensures
     c.put_line-at.ensures
 
 pub returns : goal.returns
-returns c = wrote_all c.loop-i.invariant c.loop-i-test.false
-
-pub loop-i-init : goal.loop-i-init
-loop-i-init c = wrote_none _ _ _ _
+returns g c = wrote_all c.loop-figure.invariant c.loop-figure-test.false

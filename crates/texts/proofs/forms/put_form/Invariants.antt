@@ -1,10 +1,8 @@
-use Prim.Native.Nat.{◌-◌}
-use Rattle.texts.specs.Stages.{form_at}
+use Rattle.texts.specs.Parts.{form_left}
 use Rattle.texts.proofs.Writing.{Wrote}
 use Rattle.texts.proofs.forms.put_form.Given as goal
 
-abbrev pub invariant-loop-i : goal.invariant-loop-i
-invariant-loop-i l = Wrote (form_at l.machines l.initial.stage) l.row l.count (form_at l.machines l.stage) l.i l.initial.output l.output l.at
-
-abbrev pub decreases-loop-i : goal.decreases-loop-i
-decreases-loop-i l = l.count - l.i
+abbrev pub invariant-loop-figure : goal.invariant-loop-figure
+invariant-loop-figure g l =
+    let form = g.L.FormLine.form l.machines in
+    Wrote (form l.fn.first) l.figures (form_left form l.place) l.figure-index l.initial.output l.output l.at

@@ -1,66 +1,41 @@
 -- `texts::forms::read_form` meets its contract: a turn reads one line, and its figure stands in the row.
-use mathlib.Core.Path.{sym, ◌∙◌}
-use Prim.Native.Nat.{◌≤◌, ◌<◌}
+use mathlib.Core.Path.{sym, ap, subst}
 use native.Mathlib.Omega.{arith}
-use lib.ListN.{length}
 use Rattle.lines.specs.DueLines.{due_of}
-use Rattle.texts.specs.Stages.{form_at}
-use Rattle.lines.specs.Parts.{most_scanned}
-use Rattle.texts.specs.Parts.{Asks}
-use Rattle.texts.proofs.Staged.{stage_asks, stage_done, ask_next}
-use Rattle.texts.proofs.Reading.{said_read, said_refused, Took, took, read_none, read_room, read_more, read_stops, read_all}
+use Rattle.texts.specs.Parts.{form_left, FormRead}
+use Rattle.texts.proofs.Staged.{ask_next}
+use Rattle.texts.proofs.Reading.{ReadTo, Took, took, read_more, read_stops, read_all}
+use Rattle.texts.proofs.forms.read_form.Given.{Over}
 use Rattle.texts.proofs.forms.read_form.Goals as goal
-use Rattle.texts.proofs.forms.read_form.Goals.{After-due_at-due, In-Read}
+use Rattle.texts.proofs.forms.read_form.Goals.{In-Some, In-Ok}
 
-asked : (c : After-due_at-due) →
-    Asks (form_at c.args.machines c.loop-stage.stage) c.due_at-due.result × (c.due_at-due.result.digits ≤ most_scanned)
-asked c =
-    let more = sym c.is_over.ensures ∙ c.loop-stage-test.true in
-    stage_asks c.args.machines c.loop-stage.stage more c.due_at-due.ensures
+-- what was read so far, with the form that is left at this line
+so_far : (g : Over) (c : In-Some g) →
+    let form = g.L.FormLine.form c.args.machines in
+    ReadTo (form c.args.first) c.args.text.now c.args.row.now (form c.in-Some.here) c.loop-place.row c.loop-place.at c.loop-place.count
+so_far g c = rw c.in-Some.is at c.loop-place.invariant
 
-line_read : (c : In-Read) →
-    Took
-    (due_of c.due_at-due.result)
-    c.args.text.now
-    c.loop-stage.at
-    c.in-Read.figure
-    c.in-Read.next
-line_read c = took (said_read (sym c.in-Read.is ∙ c.read_line-line.ensures.answer_is))
+line_read : (g : Over) (c : In-Ok g) → Took (due_of c.due.result) c.args.text.now c.loop-place.at c.in-Ok.field-0.value c.in-Ok.field-0.next
+line_read g c = took (sym c.in-Ok.ensures)
 
--- the figure has its place
-room : (c : In-Read) → c.loop-stage.count < length c.loop-stage.row
-room c = read_room c.loop-stage.invariant (asked (goal.at.In-Read c).After-due_at-due).0
+pub returns-in_default-line : goal.returns-in_default-line
+returns-in_default-line g c =
+    subst (FormRead _ _ _ _) (sym c.in_default-line.is)
+    (read_stops (so_far g (goal.at.returns-in_default-line g c).In-Some) (c.due.ensures c.args.machines) c.in_default-line.ensures)
 
-pub bounds-row-count : goal.bounds-row-count
-bounds-row-count c = room (goal.at.bounds-row-count c).In-Read
+pub after-place-requires : goal.after-place-requires
+after-place-requires g c = ask_next c.requires.some_machine (c.due.ensures _) (line_read g (goal.at.after-place-requires g c).In-Ok).taken
 
-pub loop-stage-init : goal.loop-stage-init
-loop-stage-init c = read_none _ _ _ c.requires.room
+pub loop-place-smaller : goal.loop-place-smaller
+loop-place-smaller g c = let t = line_read g (goal.at.loop-place-smaller g c).In-Ok in omega arith
 
-pub read_line-line-requires : goal.read_line-line-requires
-read_line-line-requires c = record { within = c.loop-stage.invariant.within; digits = (asked (goal.at.read_line-line-requires c).After-due_at-due).1 }
-
-pub returns-in_default : goal.returns-in_default
-returns-in_default c =
-    let told = c.in_default.is in
-    read_stops c.loop-stage.invariant (asked (goal.at.returns-in_default c).After-due_at-due).0 (said_refused (sym told ∙ c.read_line-line.ensures.answer_is)) told
-
-pub offset_bounds-row-count : goal.offset_bounds-row-count
-offset_bounds-row-count c = let r = room (goal.at.offset_bounds-row-count c).In-Read in let l = c.loop-stage.invariant.long in omega (arith, c.well_formed)
-
-pub overflow_add-count : goal.overflow_add-count
-overflow_add-count c = let r = room (goal.at.overflow_add-count c).In-Read in let l = c.loop-stage.invariant.long in omega (arith, c.well_formed)
-
-pub stage_after-stage-requires : goal.stage_after-stage-requires
-stage_after-stage-requires c = ask_next c.requires.some_machine (asked (goal.at.stage_after-stage-requires c).After-due_at-due).0 (line_read (goal.at.stage_after-stage-requires c).In-Read).taken
-
-pub loop-stage-smaller : goal.loop-stage-smaller
-loop-stage-smaller c = let t = line_read (goal.at.loop-stage-smaller c).In-Read in omega arith
-
-pub loop-stage-preserved : goal.loop-stage-preserved
-loop-stage-preserved c = read_more c.loop-stage.invariant (asked (goal.at.loop-stage-preserved c).After-due_at-due).0 (line_read (goal.at.loop-stage-preserved c).In-Read) c.stage_after-stage.ensures
+pub loop-place-preserved : goal.loop-place-preserved
+loop-place-preserved g c =
+    read_more
+    (so_far g (goal.at.loop-place-preserved g c).In-Some)
+    (c.due.ensures c.args.machines)
+    (line_read g (goal.at.loop-place-preserved g c).In-Ok)
+    c.after-place.ensures
 
 pub returns : goal.returns
-returns c =
-    let over = sym c.is_over.ensures ∙ c.loop-stage-test.false in
-    read_all c.loop-stage.invariant (stage_done c.args.machines c.loop-stage.stage over)
+returns g c = read_all c.loop-place.invariant (ap (form_left (g.L.FormLine.form c.args.machines)) c.in_default.is)

@@ -5,9 +5,6 @@ use native.Mathlib.Omega.{arith}
 use Rattle.texts.specs.JobText.{run_lines, tasks_lines}
 use Rattle.texts.proofs.job_lines.after_run.Goals as goal
 
-pub returns-then-runs-ne0 : goal.returns-then-runs-ne0
-returns-then-runs-ne0 c machines = let n : suc (c.args.runs - 1) ≡ c.args.runs = omega arith in rw n refl
-
 pub returns-then-tasks-ne0 : goal.returns-then-tasks-ne0
 unfolding run_lines
 returns-then-tasks-ne0 c machines =

@@ -1,5 +1,0 @@
-use Rattle.reservation.proofs.Staying.{StayedSo}
-use Rattle.reservation.proofs.rows.still_held.Given as goal
-
-abbrev pub invariant-loop-row : goal.invariant-loop-row
-invariant-loop-row l = StayedSo l.fn.held l.count l.jobs l.left l.rows l.kept l.row-index

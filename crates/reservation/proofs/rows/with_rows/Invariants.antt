@@ -1,5 +1,0 @@
-use Rattle.reservation.proofs.Joined.{Joined}
-use Rattle.reservation.proofs.rows.with_rows.Given as goal
-
-abbrev pub invariant-loop-i : goal.invariant-loop-i
-invariant-loop-i l = Joined l.initial.rows l.count l.own l.more l.job l.rows l.i

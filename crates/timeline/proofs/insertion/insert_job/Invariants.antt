@@ -1,8 +1,0 @@
-use Rattle.timeline.proofs.Inserted.{Shifted}
-use Rattle.timeline.proofs.insertion.insert_job.Given as goal
-
-abbrev pub invariant-loop-i : goal.invariant-loop-i
-invariant-loop-i l = Shifted 1 l.initial.jobs l.count l.at l.jobs l.i
-
-abbrev pub decreases-loop-i : goal.decreases-loop-i
-decreases-loop-i l = l.i

@@ -1,0 +1,12 @@
+use Rattle.std.proofs.Common.{◌≡◌, ℕ, ◌<◌, length, get_or}
+use mathlib.Core.Bool.{false}
+use lib.Dec.{leb}
+use Rattle.timeline.specs.Notes.{no_note}
+use Rattle.rules.specs.Words.{row_limit}
+use Rattle.timetable.proofs.Timetable.rows_ended.Given as goal
+
+abbrev pub invariant-loop-i : goal.invariant-loop-i
+invariant-loop-i l = record {
+  long : length l.leaves ≡ row_limit;
+  marks : (k : ℕ) → k < l.i → get_or l.leaves k false ≡ leb (get_or l.note-items k no_note).last l.tick;
+}

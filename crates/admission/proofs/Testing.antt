@@ -14,6 +14,7 @@ use Rattle.rules.specs.Answers.{refused}
 use Rattle.rules.specs.Words.{State, view, of_job, largest_number}
 use Rattle.rules.specs.Refusals.{refuse_if, refusal, first_infeasible, submit_tests, submit_answer, submits, settle, step}
 use Rattle.rules.specs.Demands.{InRange, here}
+use Rattle.rules.proofs.Order.{in_range_count}
 use Rattle.rules.proofs.Tests.{in_range_passed, held_passed}
 use Rattle.rules.proofs.Order.{in_between}
 use Rattle.timeline.specs.RowLine.{line_of}
@@ -65,7 +66,8 @@ module _ {t : Timetable} {s : Setup} {j : Job} where
       setup = s;
       machines_are = refl;
       machines_at_most = ask.is.sound.room;
-      in_range = screens.in_range refl;
+      few = (in_range_count s j (screens.in_range refl)).1;
+      figures = (screens.in_range refl).figures;
       clock_at_most = omega (arith, ap (λ x. x.clock) ask.is.is, ask.is.bounded.clock);
     }
 

@@ -25,7 +25,10 @@ InputsOf j new t inputs = inputs ≡ map (input_of new) (into j t)
 pub record AskGather (j : Job) (t : ℕ) (spots : List (Option Spot)) : Type 0 where
   pub job : SomeJob j
   pub listed : t < j.taskcount
-  pub senders_placed : (msg : Message) → Memᴰ msg (into j (t + 1)) → IsSome (spot_of spots msg.sender)
+
+-- the sender of each of these messages has a spot
+abbrev pub SendersPlaced : List (Option Spot) → List Message → Type 0
+SendersPlaced spots msgs = (msg : Message) → Memᴰ msg msgs → IsSome (spot_of spots msg.sender)
 
 abbrev pub GatheredIs : Job → (t : ℕ) → List (Option Spot) → List Input → Type 0
-GatheredIs j t spots inputs = (new : List Row) → StandsFor new spots → InputsOf j new (t + 1) inputs
+GatheredIs j t spots inputs = (new : List Row) → StandsFor new spots → SendersPlaced spots (into j (t + 1)) → InputsOf j new (t + 1) inputs

@@ -16,7 +16,7 @@ pub struct Input {
 
 pub type Inputs = ArrayVec<Input, MESSAGES>;
 
-// Gathers the messages into the task at an index, whose senders all are placed, in their order.
+// Gathers the messages into the task at an index, in their order. At its turn all their senders are placed.
 pub fn gather(job: &Job, t: usize, spots: &Spots) -> Inputs
     requires { AskGather job.now t spots.now }
     ensures { GatheredIs job.now t spots.now result.items }
@@ -27,7 +27,7 @@ pub fn gather(job: &Job, t: usize, spots: &Spots) -> Inputs
             continue;
         }
         let Some(spot) = spots[message.sender as usize - 1] else {
-            unreachable!()
+            continue;
         };
         inputs.push(Input {
             sender: message.sender,

@@ -81,7 +81,6 @@ module _ {s : Setup} {j : Job} {base : ℕ} {line₀ : Timeline spans_room} (ask
         gather_asked = record {
           job = record { setup = s; range = asked.placeable.range };
           listed = index_listed s j asked.rows asked.placeable witness t its_next;
-          senders_placed = senders_found s j asked.rows asked.placeable witness t its_next;
         }
 
         module _ {inputs : List Input} (gathered : GatheredIs j t spots inputs) where
@@ -89,7 +88,7 @@ module _ {s : Setup} {j : Job} {base : ℕ} {line₀ : Timeline spans_room} (ask
           its_turn = record { t = t; release = release + dispatch }
 
           inputs_of : (rows : List Row) (ask : Placeable s j rows base line₀) → InputsOf j (now.so_far rows ask).new (t + 1) inputs
-          inputs_of rows ask = let p = now.so_far rows ask in gathered p.new p.stands
+          inputs_of rows ask = let p = now.so_far rows ask in gathered p.new p.stands (senders_found s j rows ask p t (is_next rows ask))
 
           scene_of :
               (rows : List Row) (ask : Placeable s j rows base line₀) →

@@ -134,7 +134,7 @@ module _ {j : Job} {l : List Task} (tasks : Lists j l) {machines : ℕ} (clock :
     runs_at_most = λ m few.
         let one_on : m + 1 - 1 ≡ m = omega arith in
         let listed : i < j.taskcount = omega (arith, tasks.long) in
-        let run = run_at_most ask.setup j i m ask.in_range.figures listed (omega (arith, ask.machines_are)) in
+        let run = run_at_most ask.setup j i m ask.figures listed (omega (arith, ask.machines_are)) in
         rw (own_task tasks i more) (rw one_on at run);
     clock_at_most = ask.clock_at_most;
   }

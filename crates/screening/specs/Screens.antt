@@ -1,5 +1,5 @@
 -- Between functions: what the tests of a submission that read no row ask and answer, for every setup with so many machines.
-use Rattle.std.specs.Prelude.{◌≡◌, Bool, List, ℕ, ◌≤◌, ◌<◌, get_or, take, length, Option, Some, None, Result, Ok, Err}
+use Rattle.std.specs.Prelude.{◌≡◌, Bool, false, List, ℕ, ◌≤◌, ◌<◌, get_or, take, length, Option, Some, None, Result, Ok, Err}
 use Rattle.std.proofs.Math.Option.{none, some}
 use Rattle.std.proofs.Math.Option as Rules
 use Rattle.rules.specs.declared.Job.{Job}
@@ -57,7 +57,8 @@ pub record AskInfeasibles (j : Job) (machines clock : ℕ) : Type 0 where
   pub setup : Setup
   pub machines_are : setup.table.machines ≡ machines
   pub machines_at_most : machines ≤ most_machines
-  pub in_range : InRange setup j
+  pub few : j.taskcount ≤ most_tasks
+  pub figures : out_of_range setup j ≡ false
   pub clock_at_most : clock ≤ horizon
 
 -- the task that the code's answer names, as the rules name one

@@ -1,11 +1,10 @@
 -- `screening::first_infeasible` meets its contract: none of the tasks passed is infeasible.
 use lib.Seq.{take_all}
-use Rattle.rules.proofs.Order.{in_range_count}
 use Rattle.screening.proofs.Feasible.{task_asked, first_found, none_found}
 use Rattle.screening.proofs.first_infeasible.Goals as goal
 
 pub tasks_of-task-items-requires : goal.tasks_of-task-items-requires
-tasks_of-task-items-requires c = let ask = c.requires in (in_range_count ask.setup c.args.job.now ask.in_range).1
+tasks_of-task-items-requires c = c.requires.few
 
 pub infeasible-requires : goal.infeasible-requires
 infeasible-requires c = task_asked c.tasks_of-task-items.ensures c.args.clock c.requires c.loop-index.index c.loop-index-test.true

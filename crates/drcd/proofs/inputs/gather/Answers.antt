@@ -5,7 +5,7 @@ use Rattle.std.proofs.lemmas.List.{take_more, take_all}
 use Rattle.rules.specs.Words.{messages_of}
 use Rattle.drcd.specs.Trials.{no_message}
 use Rattle.drcd.proofs.Listed.{EndsWithin, tasks_few, messages_few, messages_listed, ends_at}
-use Rattle.drcd.proofs.Gathered.{gathered_none, gathered_other, gathered_more, gathered_few, sender_there}
+use Rattle.drcd.proofs.Gathered.{gathered_none, gathered_other, gathered_more, gathered_few, gathered_unplaced}
 use Rattle.drcd.proofs.inputs.gather.Goals as goal
 use Rattle.drcd.proofs.inputs.gather.Goals.{In-loop-message}
 
@@ -33,15 +33,16 @@ offset_bounds-spots-message c = omega (arith, (ends (goal.at.offset_bounds-spots
 pub bounds : goal.bounds
 bounds c = let e = ends (goal.at.bounds c).In-loop-message in omega arith
 
-pub unreachable-requires : goal.unreachable-requires
-unreachable-requires c = sender_there c.requires _ c.loop-message-test.true c.if-message-t.false c.in_default.is
-
 pub push-requires : goal.push-requires
 push-requires c = (omega arith, omega (arith, gathered_few _ _ c.loop-message.invariant c.loop-message-test.true, messages_listed c.requires.job))
 
 pub loop-message-preserved-then-message-t : goal.loop-message-preserved-then-message-t
 loop-message-preserved-then-message-t c =
     rw (take_more _ _ no_message c.loop-message-test.true) (gathered_other c.loop-message.invariant _ c.if-message-t.true)
+
+pub loop-message-preserved-in_default : goal.loop-message-preserved-in_default
+loop-message-preserved-in_default c =
+    rw (take_more _ _ no_message c.loop-message-test.true) (gathered_unplaced c.loop-message.invariant _ c.if-message-t.false c.in_default.is)
 
 pub loop-message-preserved : goal.loop-message-preserved
 loop-message-preserved c =
@@ -51,6 +52,6 @@ loop-message-preserved c =
     (gathered_more c.loop-message.invariant _ c.if-message-t.false e.sender c.in-Some.spot c.in-Some.is)
 
 pub returns : goal.returns
-returns c = λ new stands.
+returns c = λ new stands placed.
     let all = take_all _ (messages_of c.args.job.now) c.loop-message-test.false in
-    rw all at (c.loop-message.invariant.is new stands)
+    (rw all at c.loop-message.invariant.is) new stands placed

@@ -44,7 +44,7 @@ extern "C" {
 #define REGISTER_OUTPUT_SIZE 184320
 
 /* The stack that a call of register_run may need, in bytes. */
-#define REGISTER_RUN_STACK 32768
+#define REGISTER_RUN_STACK 40960
 
 /*
  * Runs a script on a fresh register, and writes what the program `register`

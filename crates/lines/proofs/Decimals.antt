@@ -3,8 +3,9 @@ use mathlib.Core.Path.{◌≡◌, refl, sym, ap, ◌∙◌}
 use mathlib.Core.Bool.{Bool, true, false, not, ◌&&◌, ◌||◌}
 use mathlib.Core.List.{List, [], ◌∷◌, ◌++◌, append_assoc, append-nil}
 use Prim.Native.Nat.{ℕ, zero, suc, ◌+◌, ◌-◌, ◌*◌, ◌/◌, ◌%◌, ◌^◌, ◌≤◌, ◌<◌}
-use native.Mathlib.Nat.{pow-suc}
+use native.Mathlib.Nat.{pow-suc, one-le-pow}
 use native.Mathlib.Omega.{arith}
+use Rattle.std.specs.Prelude.{Option, None, Some, MatchOption, IfSome, IfNone}
 use lib.Dec.{ltb, leb, eqb}
 use lib.ListN.{length, get_or, length-append, get_or-append}
 use borrow.Author.Tests.{eqb-true, lt-ltb, le-ltb, le-leb, ne_eqb, eq-eqb}
@@ -102,10 +103,10 @@ decimal_digits =
 
 -- How many they are.
 
-pub step_length : (n : ℕ) → 10 ≤ n → length (decimal n) ≡ length (decimal (n / 10)) + 1
+step_length : (n : ℕ) → 10 ≤ n → length (decimal n) ≡ length (decimal (n / 10)) + 1
 step_length n h = rw (decimal_step n h) (length-append (decimal (n / 10)) ((zero_digit + n % 10) ∷ []))
 
-pub small_length : (n : ℕ) → n < 10 → length (decimal n) ≡ 1
+small_length : (n : ℕ) → n < 10 → length (decimal n) ≡ 1
 small_length n h = rw (decimal_small n h) refl
 
 pub decimal_some : (n : ℕ) → 1 ≤ length (decimal n)
@@ -129,11 +130,29 @@ decimal_length (suc k) n some h =
     more zero b l = absurd (omega arith)
     more (suc j) b l = omega arith
 
+-- a number has a digit for each power of ten that it reaches, and one
+power_reached : (k n : ℕ) → 10 ^ k ≤ n → k + 1 ≤ length (decimal n)
+power_reached zero n h = decimal_some n
+power_reached (suc k) n h =
+    let p = pow-suc 10 k in
+    let some = one-le-pow k 10 (omega arith) in
+    let below = power_reached k (n / 10) (omega arith) in
+    omega (arith, step_length n (omega arith))
+
 pub figure_length : (n : ℕ) → n ≤ largest_figure → length (decimal n) ≤ most_digits
 figure_length n h = decimal_length most_digits n (omega arith) (omega arith)
 
 pub word_length : (n : ℕ) → n < 2 ^ 64 → length (decimal n) ≤ word_digits
 word_length n h = decimal_length word_digits n (omega arith) (omega arith)
+
+-- the width of a number, by the largest power of ten that it reaches; 0 reaches none
+pub logarithm_width : (n : ℕ) (l : Option ℕ) → IfNone l (n ≡ 0) → IfSome l (λ k. 10 ^ k ≤ n) → IfSome l (λ k. n < 10 * 10 ^ k) →
+    {width : ℕ} {Said : ℕ → Type 0} → MatchOption l (width ≡ 1) Said → ((k : ℕ) → Said k → width ≡ k + 1) → width ≡ length (decimal n)
+logarithm_width n None none low high w said = omega (arith, small_length n (omega arith))
+logarithm_width n (Some k) none low high w said =
+    let p = pow-suc 10 k in
+    let e = said k w in
+    omega (arith, decimal_length (suc k) n (omega arith) (omega arith), power_reached k n low)
 
 -- No leading zero.
 

@@ -1,16 +1,15 @@
 -- Writing into a buffer, byte by byte and piece by piece.
 use mathlib.Core.Path.{◌≡◌, refl, sym, ap, ◌∙◌}
 use mathlib.Core.List.{List, [], ◌∷◌, ◌++◌, append_assoc, append-nil}
-use Prim.Native.Nat.{ℕ, suc, ◌+◌, ◌-◌, ◌/◌, ◌%◌, ◌^◌, ◌≤◌, ◌<◌}
+use Prim.Native.Nat.{ℕ, suc, ◌+◌, ◌-◌, ◌/◌, ◌%◌, ◌≤◌, ◌<◌}
 use native.Mathlib.Nat.{add-zero}
 use native.Mathlib.Omega.{arith}
 use lib.ListN.{length, get_or, take, drop, set, length-append, length-take, length-drop, take-append-drop}
 use lib.Seq.{take-suc, take_at, drop-drop, set_at, drop-append-add}
 use Rattle.rules.proofs.Sequences.{by_less}
 use Rattle.lines.specs.Figures.{zero_digit, decimal, line_feed, field}
-use Rattle.lines.specs.Parts.{word_digits}
 use Rattle.lines.specs.Put.{overwritten, Puts}
-use Rattle.lines.proofs.Decimals.{decimal_small, decimal_step, decimal_some, word_length, small_length, step_length}
+use Rattle.lines.proofs.Decimals.{decimal_small, decimal_step}
 
 -- Pieces written one after the other.
 
@@ -98,22 +97,6 @@ module _
 
       pub field_puts : Puts old at (field key n) (set last end line_feed) (end + 1)
       field_puts = let within : at ≤ length old = omega arith in puts_then within (puts_then within p q) (put_byte last end line_feed feed_room)
-
--- How many digits a number has.
-
-pub record WidthSoFar (n rest count : ℕ) : Type 0 where
-  pub in_all : length (decimal n) + 1 ≡ count + length (decimal rest)
-  pub word : rest < 2 ^ 64
-
-module _ {n rest count : ℕ} (w : WidthSoFar n rest count) where
-  pub counted_more : 10 ≤ rest → WidthSoFar n (rest / 10) (count + 1)
-  counted_more h = let a = w.in_all in let s = step_length rest h in let v = w.word in record { in_all = omega arith; word = omega arith }
-
-  pub counted_all : rest < 10 → count ≡ length (decimal n)
-  counted_all h = let a = w.in_all in let s = small_length rest h in omega arith
-
-  pub count_bound : n < 2 ^ 64 → count ≤ word_digits
-  count_bound h = let a = w.in_all in let s = decimal_some rest in let l = word_length n h in omega arith
 
 -- The digits of a number from the last to the first: those up to the place i are still to come, and they are those of `rest`.
 

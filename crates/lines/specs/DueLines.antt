@@ -1,7 +1,6 @@
 -- Between functions: keys and due lines as the code has them.
-use Rattle.std.specs.Prelude.{List, ℕ, Some, None}
-use Rattle.std.specs.Prelude as Code
-use Rattle.std.proofs.Math.Option.{Option, none, some}
+use Rattle.std.specs.Prelude.{List, ℕ}
+use Rattle.rules.specs.Answers.{option_of}
 use Rattle.lines.specs.declared.keys.Key.{Key}
 use Rattle.lines.specs.declared.keys.Key.TheVariants as K
 use Rattle.lines.specs.declared.line.DueLine.{DueLine}
@@ -22,16 +21,12 @@ key_bytes K.To = bytes "to="
 key_bytes K.Volume = bytes "volume="
 key_bytes K.Tick = bytes "tick="
 
-abbrev pub excepted : Code.Option ℕ → Option ℕ
-excepted None = none
-excepted (Some n) = some n
-
 abbrev pub due_of : DueLine → Due
 due_of d = record {
   key = key_bytes d.key;
   digits = d.digits;
   least = d.least;
   most = d.most;
-  except = excepted d.except;
+  except = option_of d.except;
   refuses = fault_number d.refuses;
 }

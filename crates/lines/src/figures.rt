@@ -1,4 +1,5 @@
-// Decimal figures and other bytes, written into a buffer from a place on.
+// Decimal figures and other bytes, written into a buffer from a place on. The buffer and the place stay two parameters: a struct of lent bytes would owe, on every
+// function, the clause that they are the same bytes.
 ghost use Rattle.std.specs.Prelude.{◌≡◌, ◌+◌, ◌≤◌, length};
 ghost use Rattle.lines.specs.Figures.{zero_digit, decimal, field};
 ghost use Rattle.lines.specs.Put.{Puts};
@@ -7,13 +8,7 @@ ghost use Rattle.lines.specs.Put.{Puts};
 pub fn width(n: u64) -> usize
     ensures { result ≡ length (decimal n) }
 {
-    let mut rest = n;
-    let mut count = 1;
-    while 10 <= rest {
-        rest /= 10;
-        count += 1;
-    }
-    count
+    n.checked_ilog10().map_or(1, |l| l as usize + 1)
 }
 
 fn digit(n: u64) -> u8
@@ -23,7 +18,8 @@ fn digit(n: u64) -> u8
     b'0' + n as u8
 }
 
-// A number in decimal, from its last digit to its first. Answers the place after it.
+// A number in decimal, from its last digit to its first. Answers the place after it. Places are indices, since no clause says what became of a buffer after an adapter
+// of `iter_mut`.
 pub fn put_figure(output: &mut [u8], at: usize, n: u64) -> usize
     requires { at + length (decimal n) ≤ length output.old }
     ensures { Puts output.old at (decimal n) output.new result }

@@ -33,6 +33,20 @@ pub struct Reading<T> {
     pub next: usize,
 }
 
+impl<T> Reading<T> {
+    // The same place, with what is made of the value.
+    pub fn map<U, F: FnOnce(T) -> U>(self, f: F) -> Reading<U>
+        requires { F.pre f self.value }
+        ensures value { F.post f self.value result.value }
+        ensures next { result.next ≡ self.next }
+    {
+        Reading {
+            value: f(self.value),
+            next: self.next,
+        }
+    }
+}
+
 // A line that is refused, by the place of its first byte. Nothing after it is read.
 #[derive(Clone, Copy, PartialEq, Eq)]
 pub struct Unread {
@@ -41,6 +55,8 @@ pub struct Unread {
 }
 
 // A line that is due: its key, the most digits of its figure, the figure's range, a figure excepted from it, if there is one, and what a figure is refused as.
+// No line of document 01 varies the digits, the exception or the refusal.
+// Document 02's stored texts do: a cost of 13 digits, a machine other than the first, refusal 22.
 #[derive(Clone, Copy, PartialEq, Eq)]
 pub struct DueLine {
     pub key: Key,

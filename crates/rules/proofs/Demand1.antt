@@ -27,7 +27,8 @@ use Rattle.rules.proofs.Resources.{running_says}
 both : {C : Type 0} {o : Option ℕ} {t : ℕ} → o ≡ none → o ≡ some t → C
 both {t = t} p q = absurd (none-ne-some t (sym p ∙ q))
 
-abbrev by_refusal : (rest : Answer) (n : ℕ) → Option ℕ → Answer
+-- what is answered where the test names no task, and where it names one
+abbrev pub by_refusal : (rest : Answer) (n : ℕ) → Option ℕ → Answer
 by_refusal rest n o = elim o as (λ _. Answer) [ none ↦ rest | some t ↦ refusal n t ]
 
 -- the first test that refuses makes the whole answer, where no test is numbered 0

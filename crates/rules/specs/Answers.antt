@@ -1,5 +1,7 @@
 -- A reader must believe this: 01's number and values for each case of a call's answer. Document 01, "What each call refuses, in order".
-use Rattle.std.specs.Prelude.{Result, Ok, Err}
+use Rattle.std.specs.Prelude.{Result, Ok, Err, Option, Some, None}
+use Rattle.std.proofs.Math.Option as Rules
+use Rattle.std.proofs.Math.Option.{none, some}
 use Rattle.rules.specs.declared.Answer.{Answer}
 use Rattle.rules.specs.declared.answers.Admission.{Admission}
 use Rattle.rules.specs.declared.answers.Refusal.{Refusal}
@@ -23,3 +25,8 @@ refused R.PastHorizon = refusal 12 0
 abbrev pub answered : Result Admission Refusal → Answer
 answered (Ok admission) = record { number = 0; task = 0; cost = admission.cost; rows = admission.rows }
 answered (Err r) = refused r
+
+-- what the code answers where the rules have something or nothing
+abbrev pub option_of : {A : Type 0} → Option A → Rules.Option A
+option_of None = none
+option_of (Some a) = some a

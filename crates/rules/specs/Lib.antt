@@ -14,3 +14,4 @@ pub mod Demands
 pub mod Bounds
 pub mod Asked
 pub mod Codes
+pub mod Arrays

@@ -143,6 +143,9 @@ task_numbers j = numbers 1 j.taskcount
 abbrev pub no_task : Task
 no_task = record { deadline = 0; dispatch = 0; runs = [] }
 
+abbrev pub no_message : Message
+no_message = record { sender = 0; receiver = 0; volume = 0 }
+
 abbrev pub task_of : Job → ℕ → Task
 task_of j t = get_or j.tasks (t - 1) no_task
 

@@ -22,7 +22,7 @@ pub enum Refusal {
 }
 
 // The cost and the count of the rows that a call has added: none for a withdrawal or a clock move.
-#[derive(Clone, Copy, PartialEq, Eq)]
+#[derive(Clone, Copy, PartialEq, Eq, Default)]
 pub struct Admission {
     pub cost: u64,
     pub rows: u64,
@@ -48,7 +48,7 @@ impl Refusal {
         }
     }
 
-    // The task that it names, 0 for none.
+    // The task that it names. Document 01 says 0 where it names none.
     pub fn task(self) -> u64
         ensures { result ≡ (refused self).task }
     {

@@ -2,7 +2,9 @@
 #![tactic(auto)]
 
 pub mod answers;
+pub mod arrays;
 pub mod codes;
+mod jobs;
 mod rows;
 pub mod tables;
 
@@ -43,7 +45,8 @@ pub struct Message {
     pub volume: u64,
 }
 
-// A job as submitted. Entries past the counts are no part of it.
+// A job as submitted. Entries past the counts are no part of it. The counts stand beside the arrays, since a submitted count may be out of range, which refusal 2
+// answers.
 #[derive(Clone, Copy, PartialEq, Eq, Default)]
 pub struct Job {
     pub number: u64,
@@ -87,7 +90,8 @@ pub enum Call {
     Advance(u64),
 }
 
-// An answer by its four figures, as document 01 gives it: number 0 or that of a refusal, the task that a refusal names, and the cost and count of new rows.
+// An answer by its four figures: number 0 or that of a refusal, the task that a refusal names, and the cost and count of new rows. It is no `Result`, since
+// document 01 gives it these figures, and the program prints them.
 #[derive(Clone, Copy, PartialEq, Eq)]
 pub struct Answer {
     pub number: u64,
@@ -96,7 +100,7 @@ pub struct Answer {
     pub rows: u64,
 }
 
-// What a look finds on a machine at a tick.
+// What a look finds on a machine at a tick. It is no `Result` of an `Option`: document 01 names a closed answer, which a request of 02 joins by a case.
 #[derive(Clone, Copy, PartialEq, Eq)]
 pub enum Seen {
     Idle,
@@ -104,7 +108,8 @@ pub enum Seen {
     NoMachine,
 }
 
-// The machines: failure rates, and for each link its time per unit of volume and its failure rate, a row for each sending machine.
+// The machines: failure rates, and for each link its time per unit of volume and its failure rate, a row for each sending machine. Document 01 gives two tables
+// of links, so they are two columns here.
 #[derive(Clone, Copy, PartialEq, Eq)]
 pub struct Table {
     pub machines: u64,

@@ -6,22 +6,26 @@ use mathlib.Core.Option.{Option, none, some}
 use Prim.Native.Nat.{ℕ, ◌+◌, ◌-◌, ◌≤◌, ◌<◌}
 use native.Mathlib.Omega.{arith}
 use lib.Dec.{ltb, leb}
-use lib.ListN.{get_or, take, length}
-use lib.Seq.{take_all}
+use lib.ListN.{get_or, take, length, length-take}
+use lib.Seq.{get_or-take}
+use Rattle.std.proofs.lemmas.List.{get_or_default}
 use Rattle.std.proofs.Common.{Some, None}
-use borrow.Author.Tests.{ltb-false, leb-true, lt-ltb, le-ltb, le-leb}
-use Rattle.std.specs.List.{list_any}
+use Rattle.std.proofs.lemmas.Bool.{lt-leb}
+use Rattle.std.specs.Prelude as Code
+use Rattle.std.specs.Option.{MatchOption, IsSomeAnd}
+use borrow.Author.Tests.{ltb-false, lt-ltb, le-ltb, le-leb}
+use Rattle.std.specs.List.{list_any, AllWithin, HoldsAt}
 use Rattle.rules.specs.declared.Job.{Job}
 use Rattle.rules.specs.declared.Setup.{Setup}
 use Rattle.rules.specs.declared.Task.{Task}
 use Rattle.rules.specs.Sequences.{any_of, keep, numbers, foremost}
 use Rattle.rules.specs.Words.{largest_time, horizon, machines, task_of, run_time, no_task}
 use Rattle.rules.specs.Refusals.{outside, task_out_of_range, out_of_range, infeasible, first_infeasible}
-use Rattle.rules.proofs.Sequences.{by_test, by_less, clash, or_false, and_true, and_both, any_none, any_witness, keep_none, keep_mem, mem_keep}
+use Rattle.rules.proofs.Sequences.{by_test, by_less, clash, or_false, and_both, any_none, any_mem, none_any, keep_none, keep_mem, mem_keep}
 use Rattle.rules.proofs.Sequences.{mem_numbers, numbers_mem}
 use Rattle.rules.proofs.Choice.{precedes_false, foremost_mem, foremost_first, foremost_empty}
-use Rattle.screening.specs.Screens.{Lists, AskInfeasible, InfeasibleIs, AskInfeasibles, FirstIs}
-use Rattle.screening.proofs.Listed.{any_listed, numbered, any_numbered, all_there, own_task, first_tasks, setup_with, alone}
+use Rattle.screening.specs.Screens.{AskInfeasible, InfeasibleIs, AskInfeasibles, FirstIs}
+use Rattle.screening.proofs.Listed.{Lists, any_listed, numbered, own_task, none_numbered}
 
 -- The least non-zero run time decides for all of them.
 
@@ -34,50 +38,49 @@ module _ (clock deadline : ℕ) (runs : List ℕ) where
   abbrev late : Option ℕ → Bool
   late o = elim o [ none ↦ true | some run ↦ ltb deadline (clock + run) ]
 
-  one_ends : any_of (ends clock deadline) runs ≡ true → (o : Option ℕ) → foremost (λ run. run ∷ []) (keep (ltb 0) runs) ≡ o → late o ≡ false
-  one_ends e o f = go o f
-    where
-      one : (run : ℕ) × Memᴰ run runs × (ends clock deadline run ≡ true)
-      one = any_witness (ends clock deadline) runs e
-
-      both : (ltb 0 one.0 ≡ true) × (leb (clock + one.0) deadline ≡ true)
-      both = and_true (ltb 0 one.0) (leb (clock + one.0) deadline) one.2
-
-      own : Memᴰ one.0 (keep (ltb 0) runs)
-      own = keep_mem (ltb 0) one.1 both.0
-
-      go : (o : Option ℕ) → foremost (λ run. run ∷ []) (keep (ltb 0) runs) ≡ o → late o ≡ false
-      go none f = absurd (foremost_empty _ f own)
-      go (some run) f =
-          let least = (precedes_false _ _ (foremost_first _ (keep (ltb 0) runs) f own)).0 in
-          le-ltb deadline (clock + run) (omega (arith, leb-true (clock + one.0) deadline both.1))
-
-  none_ends : any_of (ends clock deadline) runs ≡ false → (o : Option ℕ) → foremost (λ run. run ∷ []) (keep (ltb 0) runs) ≡ o → late o ≡ true
-  none_ends e none f = refl
-  none_ends e (some run) f =
+  late_unless : (o : Option ℕ) → foremost (λ run. run ∷ []) (keep (ltb 0) runs) ≡ o → late o ≡ not (any_of (ends clock deadline) runs)
+  late_unless none f =
+      let never = λ (run : ℕ) (mem : Memᴰ run runs).
+      by_test (ltb 0 run) (λ can. absurd (foremost_empty _ f (keep_mem (ltb 0) mem can))) (λ cannot. ap (λ b. b && leb (clock + run) deadline) cannot) in
+      sym (ap not (none_any (ends clock deadline) runs never))
+  late_unless (some least) f =
       let kept = mem_keep (ltb 0) runs (foremost_mem _ (keep (ltb 0) runs) f) in
-      let not_in_time = any_none (ends clock deadline) e kept.0 in
-      by_less deadline (clock + run) (λ h. lt-ltb deadline (clock + run) h) (λ h. clash (and_both _ _ kept.1 (le-leb (clock + run) deadline h)) not_in_time)
-
-  late_unless : late (foremost (λ run. run ∷ []) (keep (ltb 0) runs)) ≡ not (any_of (ends clock deadline) runs)
-  late_unless =
+      let never = λ (h : deadline < clock + least) (run : ℕ) (mem : Memᴰ run runs).
       by_test
-      (any_of (ends clock deadline) runs)
-      (λ e. one_ends e _ refl ∙ sym (ap not e))
-      (λ e. none_ends e _ refl ∙ sym (ap not e))
+      (ltb 0 run)
+      (λ can.
+      let above = (precedes_false _ _ (foremost_first _ (keep (ltb 0) runs) f (keep_mem (ltb 0) mem can))).0 in
+      rw (can, lt-leb (clock + run) deadline (omega arith)) refl)
+      (λ cannot. ap (λ b. b && leb (clock + run) deadline) cannot) in
+      by_less
+      deadline
+      (clock + least)
+      (λ h. rw (lt-ltb deadline (clock + least) h, none_any (ends clock deadline) runs (never h)) refl)
+      (λ h.
+      rw (le-ltb deadline (clock + least) h, any_mem (ends clock deadline) kept.0 (and_both _ _ kept.1 (le-leb (clock + least) deadline h))) refl)
 
 -- The machines of a task.
+
+-- a run time that a machine of the task has is in range
+pub run_asked :
+    {task : Task} {count clock : ℕ} → AskInfeasible task count clock → count ≤ length task.runs → (i run : ℕ) → i < length (take count task.runs) →
+    run ≡ get_or (take count task.runs) i run → clock + run ≤ horizon + largest_time
+run_asked {task} {count} ask long i run more is =
+    let few : i < count = omega (arith, length-take count task.runs) in
+    let read : get_or (take count task.runs) i run ≡ get_or task.runs i 0
+    = get_or_default (take count task.runs) i run 0 more ∙ get_or-take count task.runs i 0 few in
+    omega (arith, ask.runs_at_most i few, ask.clock_at_most, is, read)
 
 -- a task is feasible if one of the machines ends in time
 pub unless_ends :
     {task : Task} {count : ℕ} (clock : ℕ) (b : Bool) → count ≤ length task.runs →
-    list_any (ends clock task.deadline) (take count task.runs) ≡ b → InfeasibleIs task count clock (not b)
+    b ≡ list_any (ends clock task.deadline) (take count task.runs) → InfeasibleIs task count clock (not b)
 unfolding infeasible
 unless_ends {task} {count} clock b long e s j t same is =
     let own : Task = task_of j t in
     let listed : map (run_time j t) (machines s) ≡ take count task.runs
     = ap (λ k. map (run_time j t) (numbers 1 k)) same ∙ ap (λ o. map (λ m. get_or o.runs (m - 1) 0) (numbers 1 count)) is ∙ numbered 0 task.runs count long in
-    sym (late_unless clock own.deadline (map (run_time j t) (machines s)) ∙ rw (listed, is, any_listed, e) refl)
+    sym (late_unless clock own.deadline (map (run_time j t) (machines s)) _ refl ∙ rw (listed, is, any_listed, ← e) refl)
 
 -- The tasks of a job, one after the other.
 
@@ -111,10 +114,6 @@ module _ (p : ℕ → Bool) (n : ℕ) where
           let same : t + 1 ≡ u = omega arith in
           ap some same
 
--- the test of refusal 6, of a task
-abbrev pub hopeless : (machines clock : ℕ) → Task → Bool
-hopeless machines clock task = infeasible (setup_with machines) clock (alone task) 1
-
 -- a run time is in range, since test 3 passes the job
 run_at_most :
     (s : Setup) (j : Job) (t m : ℕ) → out_of_range s j ≡ false → t < j.taskcount → m < s.table.machines → run_time j (t + 1) (m + 1) ≤ largest_time
@@ -128,41 +127,46 @@ run_at_most s j t m e listed more =
     ltb-false largest_time (run_time j (t + 1) (m + 1)) (any_none (λ k. ltb largest_time (run_time j (t + 1) k)) runs own)
 
 module _ {j : Job} {l : List Task} (tasks : Lists j l) {machines : ℕ} (clock : ℕ) where
-  pub task_asked : AskInfeasibles j machines clock → (i : ℕ) → i < length l → AskInfeasible (get_or l i no_task) machines clock
-  task_asked ask i more = record {
+  pub task_asked :
+      AskInfeasibles j machines clock → (i : ℕ) (task : Task) → i < length l → task ≡ get_or l i task → AskInfeasible task machines clock
+  task_asked ask i task more is = record {
     machines_at_most = ask.machines_at_most;
     runs_at_most = λ m few.
         let one_on : m + 1 - 1 ≡ m = omega arith in
         let listed : i < j.taskcount = omega (arith, tasks.long) in
         let run = run_at_most ask.setup j i m ask.figures listed (omega (arith, ask.machines_are)) in
-        rw (own_task tasks i more) (rw one_on at run);
+        rw (is, own_task tasks i (i + 1) task more refl) (rw one_on at run);
     clock_at_most = ask.clock_at_most;
   }
 
-  passed_by_number :
-      (s : Setup) (i : ℕ) → s.table.machines ≡ machines → i ≤ length l → list_any (hopeless machines clock) (take i l) ≡ false →
-      any_of (infeasible s clock j) (numbers 1 i) ≡ false
-  unfolding infeasible
-  passed_by_number s i same within passed =
-      let few : i ≤ length j.tasks = omega (arith, all_there tasks, tasks.long) in
-      rw (same, any_numbered no_task (hopeless machines clock) j.tasks i few, ← first_tasks tasks i within) passed
-
-  pub none_found : list_any (hopeless machines clock) l ≡ false → FirstIs j machines clock None
+  -- The first found is the lowest, since those before it are feasible. The task at an index has the next number.
+  pub first_is :
+      {P : ℕ → ℕ → Type 0} (at named : Code.Option ℕ) →
+      MatchOption
+      at
+      (AllWithin (λ task. InfeasibleIs task machines clock false) l 0 (length l))
+      (λ i. (i < length l)
+      × HoldsAt (λ task. InfeasibleIs task machines clock true) l i
+      × AllWithin (λ task. InfeasibleIs task machines clock false) l 0 i) →
+      MatchOption at (named ≡ None) (λ i. IsSomeAnd named (P i)) → ((i t : ℕ) → P i t → t ≡ i + 1) → FirstIs j machines clock named
   unfolding first_infeasible
-  none_found e s same =
-      let whole = take_all j.taskcount l (omega (arith, tasks.long)) in
-      lowest_none (infeasible s clock j) j.taskcount (passed_by_number s j.taskcount same (omega (arith, tasks.long)) (rw whole e))
-
-  -- the first found is the lowest, since those passed are feasible
-  pub first_found :
-      {r : Bool} (i : ℕ) → i < length l → list_any (hopeless machines clock) (take i l) ≡ false → InfeasibleIs (get_or l i no_task) machines clock r →
-      r ≡ true → FirstIs j machines clock (Some (i + 1))
-  unfolding first_infeasible
-  first_found i more passed known e s same =
-      lowest_found
+  first_is None named passed is next s same =
+      let all : length l ≡ j.taskcount = tasks.long in
+      rw
+      is
+      (lowest_none
+      (infeasible s clock j)
+      j.taskcount
+      (none_numbered tasks (infeasible s clock j) j.taskcount (omega arith) (λ k d low below t is. passed k d low (omega arith) s j t same is)))
+  first_is (Some i) None first is next s same = absurd is
+  first_is (Some i) (Some t) first is next s same =
+      let more : i < length l = first.0 in
+      rw
+      (next i t is)
+      (lowest_found
       (infeasible s clock j)
       j.taskcount
       i
-      (passed_by_number s i same (omega arith) passed)
+      (none_numbered tasks (infeasible s clock j) i (omega arith) (λ k d low below t is. first.2 k d low below s j t same is))
       (omega (arith, tasks.long))
-      (sym (known s j (i + 1) same (sym (own_task tasks i more))) ∙ e)
+      (sym (first.1 no_task s j (i + 1) same (sym (own_task tasks i (i + 1) no_task more refl)))))

@@ -1,20 +1,18 @@
 -- A test of the tasks or the machines that are numbered from 1, made over the list that they stand in.
-use mathlib.Core.Path.{◌≡◌, refl, ap, ◌∙◌}
-use mathlib.Core.Bool.{Bool, ◌||◌}
+use mathlib.Core.Path.{◌≡◌, refl, sym, ap, ◌∙◌}
+use mathlib.Core.Bool.{Bool, false, ◌||◌}
 use mathlib.Core.List.{List, [], ◌∷◌, map, Memᴰ}
 use Prim.Native.Nat.{ℕ, zero, suc, ◌+◌, ◌-◌, ◌≤◌, ◌<◌}
 use native.Mathlib.Omega.{arith}
-use lib.ListN.{get_or, take, length, length-take}
+use lib.ListN.{get_or, take, length}
 use lib.Seq.{get_or-take}
-use Rattle.std.proofs.lemmas.List.{take-take}
-use Rattle.std.specs.List.{list_any}
+use Rattle.std.proofs.lemmas.List.{get_or_default}
+use Rattle.std.specs.List.{list_any, AllWithin}
 use Rattle.rules.specs.declared.Job.{Job}
-use Rattle.rules.specs.declared.Setup.{Setup}
 use Rattle.rules.specs.declared.Task.{Task}
 use Rattle.rules.specs.Sequences.{any_of, numbers}
 use Rattle.rules.specs.Words.{task_of, no_task}
-use Rattle.rules.proofs.Sequences.{map_same, mem_numbers}
-use Rattle.screening.specs.Screens.{Lists}
+use Rattle.rules.proofs.Sequences.{none_any, map_same, mem_numbers}
 
 -- Lists.
 
@@ -49,27 +47,28 @@ module _ {A : Type 0} (d : A) where
 
 -- The tasks of a job.
 
+-- the tasks of a job, of which the array holds as many as the count says
+pub record Lists (j : Job) (l : List Task) : Type 0 where
+  pub listed : l ≡ take j.taskcount j.tasks
+  pub long : length l ≡ j.taskcount
+
 module _ {j : Job} {l : List Task} (tasks : Lists j l) where
-  pub all_there : j.taskcount ≤ length j.tasks
-  all_there = omega (arith, ap length tasks.listed, length-take j.taskcount j.tasks)
-
   -- the task at an index has the next number
-  pub own_task : (i : ℕ) → i < length l → get_or l i no_task ≡ task_of j (i + 1)
-  own_task i more =
-      let few : i < j.taskcount = omega arith in
-      let at : i ≡ i + 1 - 1 = omega arith in
-      ap (λ k. get_or k i no_task) tasks.listed ∙ get_or-take j.taskcount j.tasks i no_task few ∙ ap (λ k. get_or j.tasks k no_task) at
+  pub own_task : (i t : ℕ) (task : Task) → i < length l → t ≡ i + 1 → get_or l i task ≡ task_of j t
+  own_task i t task more next =
+      let few : i < j.taskcount = omega (arith, tasks.long) in
+      let at : i ≡ t - 1 = omega arith in
+      get_or_default l i task no_task more
+      ∙ (ap (λ k. get_or k i no_task) tasks.listed ∙ (get_or-take j.taskcount j.tasks i no_task few ∙ ap (λ k. get_or j.tasks k no_task) at))
 
-  pub first_tasks : (i : ℕ) → i ≤ length l → take i l ≡ take i j.tasks
-  first_tasks i within =
-      let few : i ≤ j.taskcount = omega arith in
-      ap (take i) tasks.listed ∙ take-take i j.taskcount j.tasks few
-
--- What a test of a task reads: the count of machines, and the task.
-
-abbrev pub setup_with : ℕ → Setup
-setup_with machines = record { table = record { machines = machines; rates = []; times = []; fails = [] } }
-
--- a job of that task
-abbrev pub alone : Task → Job
-alone task = record { number = 0; scheduling = 0; taskcount = 1; tasks = task ∷ []; messagecount = 0; messages = [] }
+  -- a test that none of the first i tasks passes
+  pub none_numbered :
+      (p : ℕ → Bool) (i : ℕ) → i ≤ length l → AllWithin (λ task. (t : ℕ) → task_of j t ≡ task → false ≡ p t) l 0 i → any_of p (numbers 1 i) ≡ false
+  none_numbered p i within passed =
+      none_any
+      p
+      (numbers 1 i)
+      (λ t mem.
+      let range = mem_numbers 1 i mem in
+      let below : t - 1 < i = omega arith in
+      sym (passed (t - 1) no_task (omega arith) below t (sym (own_task (t - 1) t no_task (omega arith) (omega arith)))))

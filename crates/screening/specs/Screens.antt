@@ -1,14 +1,12 @@
 -- Between functions: what the tests of a submission that read no row ask and answer, for every setup with so many machines.
-use Rattle.std.specs.Prelude.{◌≡◌, Bool, false, List, ℕ, ◌≤◌, ◌<◌, get_or, take, length, Option, Some, None, Result, Ok, Err}
-use Rattle.std.proofs.Math.Option.{none, some}
-use Rattle.std.proofs.Math.Option as Rules
+use Rattle.std.specs.Prelude.{◌≡◌, Bool, false, ℕ, ◌≤◌, ◌<◌, get_or, Option, Result, Ok, Err}
 use Rattle.rules.specs.declared.Job.{Job}
 use Rattle.rules.specs.declared.Message.{Message}
 use Rattle.rules.specs.declared.Setup.{Setup}
 use Rattle.rules.specs.declared.Task.{Task}
 use Rattle.rules.specs.declared.answers.Refusal.{Refusal}
 use Rattle.rules.specs.Words.{horizon, largest_time, most_machines, most_tasks, task_of, View}
-use Rattle.rules.specs.Answers.{refused}
+use Rattle.rules.specs.Answers.{refused, option_of}
 use Rattle.rules.specs.Refusals.{task_out_of_range, out_of_range, message_out_of_range, infeasible, first_infeasible, submit_answer}
 use Rattle.rules.specs.Demands.{InRange}
 
@@ -18,11 +16,6 @@ use Rattle.rules.specs.Demands.{InRange}
 abbrev pub TaskOutsideIs : (machines : ℕ) → Task → Bool → Type 0
 TaskOutsideIs machines task r =
     (s : Setup) (j : Job) (t : ℕ) → s.table.machines ≡ machines → task_of j t ≡ task → r ≡ task_out_of_range s j t
-
--- the tasks of a job, of which the array holds as many as the count says
-pub record Lists (j : Job) (l : List Task) : Type 0 where
-  pub listed : l ≡ take j.taskcount j.tasks
-  pub long : length l ≡ j.taskcount
 
 pub record AskFigures (machines : ℕ) (j : Job) : Type 0 where
   pub machines_at_most : machines ≤ most_machines
@@ -61,10 +54,5 @@ pub record AskInfeasibles (j : Job) (machines clock : ℕ) : Type 0 where
   pub figures : out_of_range setup j ≡ false
   pub clock_at_most : clock ≤ horizon
 
--- the task that the code's answer names, as the rules name one
-abbrev pub named_by : Option ℕ → Rules.Option ℕ
-named_by None = none
-named_by (Some t) = some t
-
 abbrev pub FirstIs : Job → (machines clock : ℕ) → Option ℕ → Type 0
-FirstIs j machines clock r = (s : Setup) → s.table.machines ≡ machines → named_by r ≡ first_infeasible s clock j
+FirstIs j machines clock r = (s : Setup) → s.table.machines ≡ machines → option_of r ≡ first_infeasible s clock j

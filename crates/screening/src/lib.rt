@@ -9,7 +9,7 @@ ghost use Rattle.rules.specs.Words.{most_machines};
 ghost use Rattle.screening.specs.Screens.{ScreenedIs, AskInfeasible, InfeasibleIs, AskInfeasibles, FirstIs};
 
 use messages::bad_messages;
-use ranges::{miscounted, number_outside, out_of_range, tasks_of};
+use ranges::{miscounted, number_outside, out_of_range};
 use rules::answers::Refusal;
 use rules::{Job, Task};
 
@@ -39,12 +39,9 @@ fn infeasible(task: &Task, machines: usize, clock: u64) -> bool
     requires { AskInfeasible task.now machines clock }
     ensures { InfeasibleIs task.now machines clock result }
 {
-    for run in &task.runs[..machines] {
-        if *run != 0 && clock + *run <= task.deadline {
-            return false;
-        }
-    }
-    true
+    !task.runs[..machines]
+        .iter()
+        .any(|run| *run != 0 && clock + *run <= task.deadline)
 }
 
 // The lowest infeasible task, by its number.
@@ -52,10 +49,8 @@ pub fn first_infeasible(job: &Job, machines: usize, clock: u64) -> Option<u64>
     requires { AskInfeasibles job.now machines clock }
     ensures { FirstIs job.now machines clock result }
 {
-    for (index, task) in tasks_of(job).iter().enumerate() {
-        if infeasible(task, machines, clock) {
-            return Some(index as u64 + 1);
-        }
-    }
-    None
+    job.tasks()
+        .iter()
+        .position(|task| infeasible(task, machines, clock))
+        .map(|index| index as u64 + 1)
 }

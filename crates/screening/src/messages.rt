@@ -15,16 +15,10 @@ const LARGEST: u64 = 1_000;
 fn message_outside(tasks: u64, msg: &Message) -> bool
     ensures { MessageOutsideIs tasks msg.now result }
 {
-    if msg.sender < 1 || tasks < msg.sender {
-        return true;
-    }
-    if msg.receiver < 1 || tasks < msg.receiver {
-        return true;
-    }
-    if msg.receiver <= msg.sender {
-        return true;
-    }
-    LARGEST < msg.volume
+    !(1..=tasks).contains(&msg.sender)
+        || !(1..=tasks).contains(&msg.receiver)
+        || msg.receiver <= msg.sender
+        || LARGEST < msg.volume
 }
 
 // One message stands before another: by receiver, then by sender.
@@ -32,24 +26,16 @@ fn message_outside(tasks: u64, msg: &Message) -> bool
 fn stands_before(a: &Message, b: &Message) -> bool
     ensures { result ≡ precedes (message_order a.now) (message_order b.now) }
 {
-    a.receiver < b.receiver || (a.receiver == b.receiver && a.sender < b.sender)
+    (a.receiver, a.sender) < (b.receiver, b.sender)
 }
 
 pub fn bad_messages(job: &Job) -> bool
     requires { job.now.messagecount ≤ most_messages }
     ensures { result ≡ bad_messages_of job.now }
 {
-    // No task has the number 0: this stands before every message in range.
-    let mut last = &Message {
-        sender: 0,
-        receiver: 0,
-        volume: 0,
-    };
-    for msg in &job.messages[..job.messagecount as usize] {
-        if message_outside(job.taskcount, msg) || !stands_before(last, msg) {
-            return true;
-        }
-        last = msg;
-    }
-    false
+    let messages = job.messages();
+    messages
+        .iter()
+        .any(|msg| message_outside(job.taskcount, msg))
+        || !messages.is_sorted_by(stands_before)
 }

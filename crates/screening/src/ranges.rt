@@ -1,8 +1,8 @@
 // Refusals 1 to 3: a number, a count or a figure out of range.
 ghost use Rattle.std.specs.Prelude.{◌≡◌, ◌≤◌};
-ghost use Rattle.rules.specs.Words.{largest_number, most_machines, most_tasks};
+ghost use Rattle.rules.specs.Words.{largest_number, most_machines};
 ghost use Rattle.rules.specs.Refusals.{outside, miscounted as miscounted_of};
-ghost use Rattle.screening.specs.Screens.{TaskOutsideIs, Lists, AskFigures, OutOfRangeIs};
+ghost use Rattle.screening.specs.Screens.{TaskOutsideIs, AskFigures, OutOfRangeIs};
 
 use rules::{HORIZON, Job, LAST_JOB, MESSAGES, TASKS, Task};
 
@@ -12,25 +12,14 @@ const LONGEST: u64 = 1_000_000;
 pub fn number_outside(number: u64) -> bool
     ensures { result ≡ outside 1 largest_number number }
 {
-    if number < 1 {
-        return true;
-    }
-    LAST_JOB < number
+    !(1..=LAST_JOB).contains(&number)
 }
 
 #[tactic(auto, unfolding(rules::specs::Refusals::miscounted))]
 pub fn miscounted(job: &Job) -> bool
     ensures { result ≡ miscounted_of job.now }
 {
-    job.taskcount < 1 || (TASKS as u64) < job.taskcount || (MESSAGES as u64) < job.messagecount
-}
-
-// The tasks that a job lists: array entries past the count are no part of it.
-pub fn tasks_of(job: &Job) -> &[Task]
-    requires { job.now.taskcount ≤ most_tasks }
-    ensures { Lists job.now result.now }
-{
-    &job.tasks[..job.taskcount as usize]
+    !(1..=TASKS as u64).contains(&job.taskcount) || (MESSAGES as u64) < job.messagecount
 }
 
 // A deadline, a dispatch time or a run time of the task is out of range.
@@ -39,14 +28,9 @@ fn task_outside(task: &Task, machines: usize) -> bool
     requires { machines ≤ most_machines }
     ensures { TaskOutsideIs machines task.now result }
 {
-    let deadline = task.deadline;
-    if deadline < 1 {
-        return true;
-    }
-    if HORIZON < deadline {
-        return true;
-    }
-    LONGEST < task.dispatch || task.runs[..machines].iter().any(|run| LONGEST < *run)
+    !(1..=HORIZON).contains(&task.deadline)
+        || LONGEST < task.dispatch
+        || task.runs[..machines].iter().any(|run| LONGEST < *run)
 }
 
 #[tactic(auto, unfolding(rules::specs::Refusals::out_of_range))]
@@ -54,8 +38,5 @@ pub fn out_of_range(job: &Job, machines: usize) -> bool
     requires { AskFigures machines job.now }
     ensures { OutOfRangeIs machines job.now result }
 {
-    LONGEST < job.scheduling
-        || tasks_of(job)
-            .iter()
-            .any(|task| task_outside(task, machines))
+    LONGEST < job.scheduling || job.tasks().iter().any(|task| task_outside(task, machines))
 }

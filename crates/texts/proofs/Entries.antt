@@ -6,8 +6,8 @@ use native.Mathlib.Nat.{zero-mul, suc-mul}
 use native.Mathlib.Omega.{arith}
 use lib.ListN.{get_or, take, drop, get_or-append}
 use lib.Seq.{drop-drop}
-use Rattle.rules.specs.Words.{no_task, most_tasks, most_messages}
-use Rattle.texts.specs.JobText.{groups, filled, task_said, message_said, task_of_zeros, message_of_zeros, job_said}
+use Rattle.rules.specs.Words.{no_task, no_message, most_tasks, most_messages}
+use Rattle.texts.specs.JobText.{groups, filled, task_said, message_said, task_of_zeros, job_said}
 use Rattle.texts.specs.JobText.{head_size, task_size, message_size, messages_at}
 use Rattle.texts.specs.Laws.{TaskStands, MessageStands}
 use Rattle.texts.proofs.Groups.{groups_length}
@@ -33,7 +33,7 @@ filled_at said size n figures i blank none most h =
     get_or-append (groups said size n figures) _ none i (omega arith) ∙ groups_at said size n figures i none h
 
 -- the same where the groups begin at a place of the row
-group_of :
+pub group_of :
     {A : Type 0} (said : List ℕ → A) (size n from : ℕ) (row : List ℕ) (i : ℕ) (blank none : A) (most : ℕ) → i < n →
     get_or (filled blank most (groups said size n (drop from row))) i none ≡ said (take size (drop (from + i * size) row))
 group_of said size n from row i blank none most h =
@@ -54,7 +54,7 @@ message_stands machines index row h =
     (messages_at machines row + 1)
     row
     index
-    message_of_zeros
-    message_of_zeros
+    no_message
+    no_message
     most_messages
     h

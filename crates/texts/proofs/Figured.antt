@@ -1,12 +1,11 @@
 -- The job that a row of figures says: its entries, cut from the row one by one, and what was read into it.
 use mathlib.Core.Path.{◌≡◌, refl, sym, ap, ◌∙◌}
-use mathlib.Core.List.{List, [], ◌∷◌, ◌++◌, append_assoc}
-use Prim.Native.Nat.{ℕ, zero, suc, ◌+◌, ◌-◌, ◌*◌, ◌≤◌, ◌<◌}
-use native.Mathlib.Nat.{add-zero, add_comm, sub-zero, zero-mul, suc-mul, mul-le-mul}
+use mathlib.Core.List.{List, ◌++◌}
+use Prim.Native.Nat.{ℕ, ◌+◌, ◌-◌, ◌*◌, ◌≤◌, ◌<◌}
+use native.Mathlib.Nat.{add-zero, mul-le-mul}
 use native.Mathlib.Omega.{arith}
-use native.Mathlib.Numerals.{add-one}
-use lib.ListN.{length, get_or, take, drop, set, replicate, length-drop}
-use lib.Seq.{drop-drop, set_at, get_or-take, get_or-drop, length-take-le}
+use lib.ListN.{length, get_or, take, drop, replicate, length-drop}
+use lib.Seq.{drop-drop, get_or-take, get_or-drop, length-take-le}
 use Rattle.std.proofs.lemmas.List.{drop-replicate, drop-take}
 use Rattle.std.proofs.Common.{Result, Ok, Err}
 use Rattle.rules.specs.declared.Task.{Task}
@@ -16,7 +15,7 @@ use Rattle.lines.specs.declared.line.Unread.{Unread}
 use Rattle.lines.specs.Lines.{Parsed, parsed, refused}
 use Rattle.lines.specs.Readings.{fault_number, reading_said}
 use Rattle.texts.specs.Forms.{read}
-use Rattle.texts.specs.JobText.{groups, filled, task_said, task_size}
+use Rattle.texts.specs.JobText.{filled, task_said, task_size}
 use Rattle.texts.specs.JobText.{job_form, messages_at, job_said, as_job, job_text}
 use Rattle.texts.specs.Reader.{with_count}
 use Rattle.texts.specs.Parts.{AtMost, FormRead}
@@ -25,57 +24,11 @@ use Rattle.texts.proofs.FormLaws.{read_is_written}
 use Rattle.texts.proofs.Staged.{at_most_more}
 use Rattle.texts.proofs.JobForm.{job_form_at_most}
 use Rattle.texts.proofs.JobParts.{Parts, filled_parts}
-use Rattle.texts.proofs.Groups.{groups_length}
 use Rattle.texts.proofs.JobLaws.{row_said, parts_said}
 
 -- the figures of tasks leave room for those of the messages
 pub tasks_within : {machines n : ℕ} → machines ≤ most_machines → n ≤ most_tasks → n * task_size machines ≤ most_tasks * task_size most_machines
 tasks_within {machines} few h = let size : task_size machines ≤ task_size most_machines = omega arith in mul-le-mul h size
-
--- Entries cut from figures.
-
-module _ {A : Type 0} (said : List ℕ → A) (size : ℕ) where
-  -- one group more, behind the others
-  groups_next : (n : ℕ) (figures : List ℕ) → groups said size (suc n) figures ≡ groups said size n figures ++ (said (take size (drop (n * size) figures)) ∷ [])
-  unfolding groups
-  groups_next zero figures = rw (zero-mul size) refl
-  groups_next (suc n) figures =
-      ap (λ r. said (take size figures) ∷ r) (groups_next n (drop size figures))
-      ∙ rw (drop-drop (n * size) size figures, suc-mul n size, add_comm size (n * size)) refl
-
--- i of the groups of a row, from a place on, stand in an array, which is blank past them
-pub record Filled {A : Type 0} (said : List ℕ → A) (blank : A) (size most : ℕ) (row : List ℕ) (from : ℕ) (values : List A) (i : ℕ) : Type 0 where
-  pub values_are : values ≡ groups said size i (drop from row) ++ replicate (most - i) blank
-
-pub filled_none :
-    {A : Type 0} (said : List ℕ → A) (blank : A) (size most : ℕ) (row : List ℕ) (from : ℕ) →
-    Filled said blank size most row from (replicate most blank) 0
-unfolding groups
-filled_none said blank size most row from = record { values_are = rw (sub-zero most) refl }
-
-module _
-    {A : Type 0} {said : List ℕ → A} {blank : A} {size most : ℕ} {row : List ℕ} {from : ℕ} {values : List A} {i : ℕ}
-    (w : Filled said blank size most row from values i)
-  where
-    pub filled_more : {value : A} → i < most → value ≡ said (take size (drop (from + i * size) row)) → Filled said blank size most row from (set values i value) (i + 1)
-    filled_more {value} room is =
-        let front : List A = groups said size i (drop from row) in
-        let behind : List A = replicate (most - suc i) blank in
-        let one : most - i ≡ suc (most - suc i) = omega arith in
-        let next : groups said size (suc i) (drop from row) ≡ front ++ (value ∷ [])
-        = groups_next said size i (drop from row) ∙ rw (drop-drop (i * size) from row, ← is) refl in
-        record {
-          values_are =
-              ap (λ l. set l i value) w.values_are
-              ∙ ap (λ n. set (front ++ replicate n blank) i value) one
-              ∙ set_at front blank behind value i (groups_length said size i (drop from row))
-              ∙ sym (append_assoc front (value ∷ []) behind)
-              ∙ ap (λ l. l ++ behind) (sym next)
-              ∙ rw (add-one i) refl;
-        }
-
-    pub filled_all : {count : ℕ} → i ≡ count → values ≡ filled blank most (groups said size count (drop from row))
-    filled_all {count} same = w.values_are ∙ rw (same, groups_length said size count (drop from row)) refl
 
 -- a group's figures stand in the row
 in_group : (size at k : ℕ) (row : List ℕ) → k < size → get_or row (at + k) 0 ≡ get_or (take size (drop at row)) k 0

@@ -11,13 +11,13 @@ use lib.Seq.{drop-drop, take_at, drop_at, drop-append_seam, length-take-le, get_
 use borrow.Author.Tests.{le-leb, leb-true}
 use Rattle.std.proofs.lemmas.List.{map-id, get_or-drop}
 use Rattle.rules.specs.declared.Job.{Job}
-use Rattle.rules.specs.Words.{most_tasks, most_messages, no_task}
+use Rattle.rules.specs.Words.{most_tasks, most_messages, no_task, no_message}
 use Rattle.rules.specs.Sequences.{all_of, joined}
 use Rattle.rules.proofs.Sequences.{clash, by_test, and_true, and_both}
 use Rattle.lines.specs.Lines.{Parsed, parsed, refused}
 use Rattle.texts.specs.Forms.{read, written, fills}
 use Rattle.texts.specs.JobText.{job_form, head_size}
-use Rattle.texts.specs.JobText.{groups, filled, task_said, message_said, task_of_zeros, message_of_zeros, task_size, message_size, messages_at, job_said}
+use Rattle.texts.specs.JobText.{groups, filled, task_said, message_said, task_of_zeros, task_size, message_size, messages_at, job_said}
 use Rattle.texts.specs.JobText.{as_job, job_text}
 use Rattle.texts.specs.JobText.{task_figures, message_figures, job_figures, short, writable, written_job, blanked_task, blanked}
 use Rattle.lines.specs.Laws.{Stands}
@@ -37,7 +37,7 @@ module _ (machines : ℕ) {ns : List ℕ} (p : Parts machines ns) where
     taskcount = p.taskcount;
     tasks = filled task_of_zeros most_tasks (groups task_said (task_size machines) p.taskcount p.tasks);
     messagecount = p.messagecount;
-    messages = filled message_of_zeros most_messages (groups message_said message_size p.messagecount p.messages);
+    messages = filled no_message most_messages (groups message_said message_size p.messagecount p.messages);
   }
 
   -- whatever figures follow
@@ -78,7 +78,7 @@ module _ (machines : ℕ) {ns : List ℕ} (p : Parts machines ns) where
           taskcount = p.taskcount;
           tasks = filled task_of_zeros most_tasks (groups_front task_said (task_size machines) p.taskcount p.tasks sent_figures p.tasks_many i);
           messagecount = count_there i;
-          messages = filled message_of_zeros most_messages (groups message_said message_size (count_there i) (messages_there i));
+          messages = filled no_message most_messages (groups message_said message_size (count_there i) (messages_there i));
         })
         ∙ ap
         (λ l. record {
@@ -87,7 +87,7 @@ module _ (machines : ℕ) {ns : List ℕ} (p : Parts machines ns) where
           taskcount = p.taskcount;
           tasks = said.tasks;
           messagecount = p.messagecount;
-          messages = filled message_of_zeros most_messages l;
+          messages = filled no_message most_messages l;
         })
         (groups_front message_said message_size p.messagecount p.messages rest p.messages_many)
 
@@ -112,7 +112,7 @@ module _ (machines : ℕ) {ns : List ℕ} (p : Parts machines ns) where
       (joined_groups task_said (task_figures machines) (task_size machines) task_again p.taskcount p.tasks p.tasks_many)
       ∙ ap
       (λ l. p.number ∷ p.scheduling ∷ p.taskcount ∷ (p.tasks ++ (p.messagecount ∷ joined (map message_figures l))))
-      (kept_groups message_said message_size p.messagecount message_of_zeros most_messages p.messages)
+      (kept_groups message_said message_size p.messagecount no_message most_messages p.messages)
       ∙ ap
       (λ l. p.number ∷ p.scheduling ∷ p.taskcount ∷ (p.tasks ++ (p.messagecount ∷ l)))
       (joined_groups message_said message_figures message_size message_again p.messagecount p.messages p.messages_many)
@@ -156,7 +156,7 @@ module _ (machines : ℕ) (j : Job) (sized : Sized machines j) (few : j.messagec
 
   pub messages_many : length (joined (map message_figures (take j.messagecount j.messages))) ≡ j.messagecount * message_size
   messages_many =
-      joined_length message_said message_figures message_size message_of_zeros (take j.messagecount j.messages) (λ i h. refl)
+      joined_length message_said message_figures message_size no_message (take j.messagecount j.messages) (λ i h. refl)
       ∙ ap (λ k. k * message_size) listed_messages
 
 -- the counts and figures of a writable job
@@ -233,7 +233,7 @@ module _ (machines : ℕ) (j : Job) (sized : Sized machines j) (w : writable mac
         taskcount = j.taskcount;
         tasks = filled task_of_zeros most_tasks (tasks_again i);
         messagecount = j.messagecount;
-        messages = filled message_of_zeros most_messages (messages_again i);
+        messages = filled no_message most_messages (messages_again i);
       })
     where
       tasks_again :
@@ -251,7 +251,7 @@ module _ (machines : ℕ) (j : Job) (sized : Sized machines j) (w : writable mac
       messages_again =
           ap (λ k. groups message_said message_size k (joined (map message_figures (take j.messagecount j.messages))))
           (sym (listed_messages machines j sized counts.messages_at_most))
-          ∙ groups_joined message_said message_figures message_size message_of_zeros (take j.messagecount j.messages) (λ i h. refl)
+          ∙ groups_joined message_said message_figures message_size no_message (take j.messagecount j.messages) (λ i h. refl)
           ∙ map-id (take j.messagecount j.messages)
 
 -- The two laws.

@@ -1,6 +1,6 @@
 -- Jobs written into a buffer: what was written reads back as the job, and what was read with nothing left over is written as it stood.
 use mathlib.Core.Path.{◌≡◌, refl, sym, ap, ◌∙◌, subst}
-use mathlib.Core.Bool.{Bool, true, false, cond}
+use mathlib.Core.Bool.{true, false, cond}
 use mathlib.Core.List.{List, [], ◌∷◌, ◌++◌}
 use Prim.Native.Nat.{ℕ, ◌+◌, ◌≤◌, ◌<◌}
 use native.Mathlib.Nat.{zero-add}
@@ -19,14 +19,15 @@ use Rattle.texts.specs.Forms.{Form, written, fills}
 use Rattle.texts.specs.JobText.{job_form, job_figures, job_text, writable, written_job, blanked}
 use Rattle.texts.specs.Writer.{write_number, write_left, number_written, length_written, Writes, unwritable_number, WritesJob, unfilled_number, WritesFigures}
 use Rattle.texts.specs.Laws.{Sized, WrittenReadsBack, ReadWholeWritten}
-use Rattle.texts.specs.Parts.{AtMost, at_end, at_line, most_written}
+use Rattle.texts.specs.Parts.{AtMost, at_end, at_line}
+use Rattle.texts.specs.Rows.{most_figures}
 use Rattle.texts.proofs.Figured.{job_room}
 use Rattle.texts.proofs.JobLaws.{WritableCounts, writable_counts, fills_if_writable, written_again, reads_back}
 use Rattle.texts.proofs.Reached.{reads_parsed}
-use Rattle.texts.proofs.Writers.{judged_unwritten, writer_laws}
+use Rattle.texts.proofs.Writers.{writer_laws}
 
 -- a row that fills a form is no longer than the form allows
-pub filled_at_most : {n : ℕ} {form : Form} → AtMost n form → (ns : List ℕ) → fills form ns ≡ true → length ns ≤ n
+filled_at_most : {n : ℕ} {form : Form} → AtMost n form → (ns : List ℕ) → fills form ns ≡ true → length ns ≤ n
 unfolding fills
 filled_at_most at_end [] e = omega arith
 filled_at_most at_end (x ∷ ns) e = clash e refl
@@ -80,13 +81,10 @@ read_whole_written machines text j back reads e =
 
 -- What the writers' functions answer.
 
--- 20: what was tested before the room is not so, and nothing was written
-pub unfit_unwritten : {fit : Bool} (text old : List ℕ) → fit ≡ false → Writes (cond fit 0 20) text old old (Err Unwritable)
-unfit_unwritten text old f = rw f (judged_unwritten text old)
-
--- so many figures can be counted
-pub filled_few : (machines : ℕ) (figures : List ℕ) → machines ≤ most_machines → fills (job_form machines) figures ≡ true → length figures ≤ most_written
-filled_few machines figures few f = let many = filled_at_most (job_room machines few) figures f in omega arith
+-- no job has more lines
+pub many_figures : {machines : ℕ} (figures : List ℕ) → machines ≤ most_machines → most_figures < length figures → fills (job_form machines) figures ≡ false
+many_figures {machines} figures few h =
+    by_test (fills (job_form machines) figures) (λ f. absurd (let most = filled_at_most (job_room machines few) figures f in omega arith)) (λ u. u)
 
 -- counts out of range
 not_counted : (machines : ℕ) (j : Job) → (WritableCounts machines j → ⊥) → writable machines j ≡ false

@@ -65,13 +65,13 @@ module _
 
 -- Figures put one by one.
 
-pub put_two : (old : List ℕ) (at a b : ℕ) → at + 2 ≤ length old → Puts old at (a ∷ b ∷ []) (set (set old at a) (at + 1) b) (at + 2)
+put_two : (old : List ℕ) (at a b : ℕ) → at + 2 ≤ length old → Puts old at (a ∷ b ∷ []) (set (set old at a) (at + 1) b) (at + 2)
 put_two old at a b h =
     let l = length-set old at a in
     let two : at + 2 ≡ at + 1 + 1 = omega arith in
     rw two (puts_then (omega arith) (put_byte old at a (omega arith)) (put_byte (set old at a) (at + 1) b (omega arith)))
 
-pub put_three : (old : List ℕ) (at a b c : ℕ) → at + 3 ≤ length old → Puts old at (a ∷ b ∷ c ∷ []) (set (set (set old at a) (at + 1) b) (at + 2) c) (at + 3)
+put_three : (old : List ℕ) (at a b c : ℕ) → at + 3 ≤ length old → Puts old at (a ∷ b ∷ c ∷ []) (set (set (set old at a) (at + 1) b) (at + 2) c) (at + 3)
 put_three old at a b c h =
     let first = put_two old at a b (omega arith) in
     let l = puts_long first (omega arith) in

@@ -7,6 +7,7 @@ pub mod Staged
 pub mod JobForm
 pub mod Reading
 pub mod Writing
+pub mod Made
 pub mod Figured
 pub mod Laid
 pub mod Reached

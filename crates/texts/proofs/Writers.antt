@@ -1,6 +1,6 @@
 -- What a writer of texts answers and leaves: the number by what was judged before the room and by the room, then the length and every byte.
 use mathlib.Core.Path.{◌≡◌, refl, sym, ap, ◌∙◌}
-use mathlib.Core.Bool.{false}
+use mathlib.Core.Bool.{Bool, true, false, cond}
 use mathlib.Core.List.{List, ◌++◌, append-nil}
 use Prim.Native.Nat.{ℕ, ◌≤◌, ◌<◌}
 use native.Mathlib.Nat.{zero-add}
@@ -46,10 +46,12 @@ module _ (text buffer : List ℕ) where
   unfolding write_length
   length_refused number e = rw (write_length, e) refl
 
-  -- where the text fits and was put in
-  pub fits_written : {new : List ℕ} {next : ℕ} → length text ≤ length buffer → Puts buffer 0 text new next → Writes 0 text buffer new (Ok next)
-  fits_written h p =
-      record {
+  -- what was tested before the room is so, and the text fits and was put in
+  pub fits_written :
+      {fit : Bool} {new : List ℕ} {next : ℕ} → fit ≡ true → length text ≤ length buffer → Puts buffer 0 text new next →
+      Writes (cond fit 0 20) text buffer new (Ok next)
+  fits_written f h p =
+      rw f record {
         number_is = sym (number_fits h);
         length_is = p.next_is ∙ zero-add (length text) ∙ rw (number_fits h) (sym length_accepted);
         buffer_is = p.new_is ∙ ap (λ n. text ++ drop n buffer) (zero-add (length text)) ∙ rw (number_fits h) (sym left_accepted);
@@ -69,11 +71,12 @@ module _ (text buffer : List ℕ) where
       refuses Unwritable = refl
       refuses NoRoom = refl
 
-  pub short_unwritten : length buffer < length text → Writes 0 text buffer buffer (Err NoRoom)
-  short_unwritten h = unwritten_by 0 NoRoom (number_short h)
+  pub short_unwritten : {fit : Bool} → fit ≡ true → length buffer < length text → Writes (cond fit 0 20) text buffer buffer (Err NoRoom)
+  short_unwritten f h = rw f (unwritten_by 0 NoRoom (number_short h))
 
-  pub judged_unwritten : Writes 20 text buffer buffer (Err Unwritable)
-  judged_unwritten = unwritten_by 20 Unwritable (number_judged 20 refl)
+  -- 20: what was tested before the room is not so
+  pub unfit_unwritten : {fit : Bool} → fit ≡ false → Writes (cond fit 0 20) text buffer buffer (Err Unwritable)
+  unfit_unwritten f = rw f (unwritten_by 20 Unwritable (number_judged 20 refl))
 
   -- the laws where the text fits, and where a number refuses
   laws_fit : length text ≤ length buffer → WriterLaws 0 text buffer 0

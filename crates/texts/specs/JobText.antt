@@ -5,7 +5,7 @@ use Rattle.rules.specs.declared.Task.{Task}
 use Rattle.rules.specs.declared.Message.{Message}
 use Rattle.rules.specs.declared.Job.{Job}
 use Rattle.rules.specs.Sequences.{all_of, joined}
-use Rattle.rules.specs.Words.{most_tasks, most_messages, most_machines}
+use Rattle.rules.specs.Words.{most_tasks, most_messages, most_machines, no_message}
 use Rattle.lines.specs.Figures.{bytes}
 use Rattle.lines.specs.Lines.{Parsed, parsed, refused, largest_figure, any_figure_line, ranged}
 use Rattle.texts.specs.Forms.{Form, done, ask, read, written}
@@ -62,9 +62,6 @@ message_said figures = record { sender = get_or figures 0 0; receiver = get_or f
 abbrev pub task_of_zeros : Task
 task_of_zeros = record { deadline = 0; dispatch = 0; runs = replicate most_machines 0 }
 
-abbrev pub message_of_zeros : Message
-message_of_zeros = record { sender = 0; receiver = 0; volume = 0 }
-
 -- how many figures stand before those of the tasks, how many a task and a message have, and where those of the messages begin
 abbrev pub head_size : ℕ
 head_size = 3
@@ -86,7 +83,7 @@ job_said machines figures = record {
   tasks = filled task_of_zeros most_tasks (groups task_said (task_size machines) (get_or figures 2 0) (drop head_size figures));
   messagecount = get_or figures (messages_at machines figures) 0;
   messages =
-      filled message_of_zeros most_messages (
+      filled no_message most_messages (
       groups message_said message_size (get_or figures (messages_at machines figures) 0) (drop (messages_at machines figures + 1) figures)
       );
 }
@@ -107,7 +104,7 @@ job_of_zeros = record {
   taskcount = 0;
   tasks = replicate most_tasks task_of_zeros;
   messagecount = 0;
-  messages = replicate most_messages message_of_zeros;
+  messages = replicate most_messages no_message;
 }
 
 -- The figures of a job, in the order of its lines; those past the counts and past the machines are no part of it.
@@ -148,5 +145,5 @@ blanked machines j = record {
   taskcount = j.taskcount;
   tasks = filled task_of_zeros most_tasks (map (blanked_task machines) (take j.taskcount j.tasks));
   messagecount = j.messagecount;
-  messages = filled message_of_zeros most_messages (take j.messagecount j.messages);
+  messages = filled no_message most_messages (take j.messagecount j.messages);
 }

@@ -2,7 +2,7 @@
 -- 02, request 1.
 use Rattle.std.specs.Prelude.{◌≡◌, Bool, true, false, ◌&&◌, List, [], ◌∷◌, ◌++◌, ℕ, ◌+◌, ◌*◌, ◌≤◌, ◌<◌, eqb, length, get_or, take, drop, Result, Ok}
 use Rattle.rules.specs.declared.Job.{Job}
-use Rattle.rules.specs.Words.{most_tasks, most_messages, most_machines, no_task, task_of}
+use Rattle.rules.specs.Words.{most_tasks, most_messages, most_machines, no_task, no_message, task_of}
 use Rattle.rules.specs.Sequences.{any_of}
 use Rattle.lines.specs.Figures.{line_feed}
 use Rattle.lines.specs.declared.line.Reading.{Reading}
@@ -12,7 +12,7 @@ use Rattle.lines.specs.Readings.{reading_said}
 use Rattle.lines.specs.Laws.{Stands}
 use Rattle.texts.specs.Forms.{Form, done, ask, read, written, fills, left}
 use Rattle.lines.specs.Lines.{takes}
-use Rattle.texts.specs.JobText.{job_form, task_said, message_said, message_of_zeros, head_size, task_size, message_size, messages_at, job_said}
+use Rattle.texts.specs.JobText.{job_form, task_said, message_said, head_size, task_size, message_size, messages_at, job_said}
 use Rattle.texts.specs.JobText.{job_figures, job_text, writable, written_job, blanked}
 use Rattle.texts.specs.declared.forms.Unwritten.{Unwritten}
 use Rattle.texts.specs.Reader.{Reads}
@@ -95,7 +95,7 @@ TaskStands =
 abbrev pub MessageStands : Type 0
 MessageStands =
     (machines index : ℕ) (row : List ℕ) → index < get_or row (messages_at machines row) 0 →
-    get_or (job_said machines row).messages index message_of_zeros
+    get_or (job_said machines row).messages index no_message
     ≡ message_said (take message_size (drop (messages_at machines row + 1 + index * message_size) row))
 
 -- What is read, written again, is the bytes that were read; and what was read is writable.

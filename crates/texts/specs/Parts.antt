@@ -1,5 +1,5 @@
 -- Between functions: what the parts of the engine ask and answer.
-use Rattle.std.specs.Prelude.{◌≡◌, true, List, ◌++◌, ℕ, suc, ◌≤◌, length, drop, Option, Some, None, Result}
+use Rattle.std.specs.Prelude.{◌≡◌, true, false, List, ◌++◌, ℕ, suc, ◌≤◌, length, drop, Option, Some, None, Result}
 use Rattle.lines.specs.declared.line.DueLine.{DueLine}
 use Rattle.lines.specs.declared.line.Reading.{Reading}
 use Rattle.lines.specs.declared.line.Unread.{Unread}
@@ -7,7 +7,7 @@ use Rattle.lines.specs.Lines.{parsed, Due, takes}
 use Rattle.lines.specs.Readings.{ReadingIs}
 use Rattle.lines.specs.DueLines.{due_of}
 use Rattle.lines.specs.Parts.{most_scanned}
-use Rattle.texts.specs.Forms.{Form, done, ask, read, fills}
+use Rattle.texts.specs.Forms.{Form, done, ask, read, written, fills}
 use Rattle.texts.specs.Reader.{with_count}
 
 -- Places in a form.
@@ -49,14 +49,20 @@ pub record FormRead (form : Form) (text old new : List ℕ) (r : Result (Reading
   pub long : length new ≡ length old
   pub figures_are : (ns : List ℕ) (next : ℕ) → read form text 0 ≡ parsed ns next → new ≡ ns ++ drop (length ns) old
 
-abbrev pub AskWalk : (machines : ℕ) → Type 0
-AskWalk machines = 1 ≤ machines
-
--- rows that are written: their figures fill the form, and are few enough that the bytes can be counted
+-- figures are few enough that the bytes of their lines can be counted
 abbrev pub most_written : ℕ
 most_written = 65_536
 
-pub record AskWrite (form : Form) (machines : ℕ) (figures : List ℕ) : Type 0 where
+pub record AskWrite (machines : ℕ) (figures : List ℕ) : Type 0 where
+  pub some_machine : 1 ≤ machines
+  pub few : length figures ≤ most_written
+
+-- how many bytes the lines have, where the figures fill the form; if they are few enough, the very number
+pub record MeasuredIs (form : Form) (figures : List ℕ) (r : Option ℕ) : Type 0 where
+  pub unfilled : r ≡ None → fills form figures ≡ false
+  pub filled : (n : ℕ) → r ≡ Some n → (fills form figures ≡ true) × (length figures ≤ most_written → n ≡ length (written form figures))
+
+-- the figures fill the form
+pub record AskPut (form : Form) (machines : ℕ) (figures : List ℕ) : Type 0 where
   pub some_machine : 1 ≤ machines
   pub fills_it : fills form figures ≡ true
-  pub few : length figures ≤ most_written

@@ -19,18 +19,10 @@ pub record AskTask (machines index : ℕ) : Type 0 where
   pub machines_at_most : machines ≤ most_machines
   pub listed : index < most_tasks
 
-pub record AskTasks (machines count : ℕ) : Type 0 where
-  pub machines_at_most : machines ≤ most_machines
-  pub at_most : count ≤ most_tasks
-
 -- the message's figures lie within the row
 pub record AskMessage (from index : ℕ) : Type 0 where
   pub within : from + most_messages * message_size ≤ most_figures
   pub listed : index < most_messages
-
-pub record AskMessages (from count : ℕ) : Type 0 where
-  pub within : from + most_messages * message_size ≤ most_figures
-  pub at_most : count ≤ most_messages
 
 -- a row whose counts are in range
 pub record CountsInRange (machines : ℕ) (row : List ℕ) : Type 0 where

@@ -1,10 +1,10 @@
-// The engine that reads, tests, measures and writes every text: a text is a form, and a place in a form says what line is due and, by the figure there, what place
-// comes next.
-ghost use Rattle.std.specs.Prelude.{◌≡◌, false, [], ◌≤◌, ℕ, length};
+// The engine that reads, judges, measures and writes every text.
+// A text is a form, and a place in a form says what line is due and, by the figure there, what place comes next.
+ghost use Rattle.std.specs.Prelude.{◌≡◌, false, cond, [], ◌≤◌, ℕ, length};
 ghost use Rattle.lines.specs.Put.{Puts};
 ghost use Rattle.texts.specs.Forms.{Form, fills, written};
 ghost use Rattle.texts.specs.Writer.{Writes, unwritten_number};
-ghost use Rattle.texts.specs.Parts.{DueIs, AskNext, NextIs, form_left, AskRead, FormRead, AskWalk, AskWrite};
+ghost use Rattle.texts.specs.Parts.{DueIs, AskNext, NextIs, form_left, AskRead, FormRead, AskWrite, MeasuredIs, AskPut};
 
 use lines::figures::width;
 use lines::keys::put_line;
@@ -28,7 +28,8 @@ pub trait FormLine: Copy {
     ghost due_there: { (machines : ℕ) (place : Self) → fills (form machines place) [] ≡ false };
 }
 
-// Reads a form from the text's start on into a lent row, and answers how many figures it has.
+// Reads a form from the text's start on into a lent row, and answers how many figures it has. They are counted by hand, since a place of a form is known from the
+// figure before it, and no iterator walks that.
 pub fn read_form<L: FormLine>(
     text: &[u8],
     first: L,
@@ -43,6 +44,7 @@ pub fn read_form<L: FormLine>(
     let mut count = 0;
     while let Some(here) = place {
         let line = read_line(text, at, here.due());
+        // Document 01 names this form.
         let Ok(Reading { value, next }) = line else {
             return line;
         };
@@ -57,43 +59,29 @@ pub fn read_form<L: FormLine>(
     })
 }
 
-// Whether the figures fill a form.
-pub fn fills_form<L: FormLine>(figures: &[u64], first: L, machines: u64) -> bool
-    requires { AskWalk machines }
-    ensures { result ≡ fills (L.form machines first) figures.now }
+// How many bytes the lines of such figures have, where they fill a form. This walk judges and measures and `put_form` writes, since a refusal writes no byte.
+pub fn measured<L: FormLine>(figures: &[u64], first: L, machines: u64) -> Option<usize>
+    requires { 1 ≤ machines }
+    ensures { MeasuredIs (L.form machines first) figures.now result }
 {
     let mut place = Some(first);
+    let mut length: usize = 0;
     for figure in figures {
-        let Some(here) = place else {
-            return false;
-        };
+        let here = place?;
         let due = here.due();
-        if due.is_unfit(*figure) || due.digits < width(*figure) {
-            return false;
+        let digits = width(*figure);
+        if due.is_unfit(*figure) || due.digits < digits {
+            return None;
         }
+        length = length.saturating_add(due.key.text().len() + digits + 1);
         place = here.after(machines, *figure);
     }
-    place.is_none()
+    place.is_none().then_some(length)
 }
 
-// How many bytes the lines of such figures have.
-pub fn form_length<L: FormLine>(figures: &[u64], first: L, machines: u64) -> usize
-    requires { AskWrite (L.form machines first) machines figures.now }
-    ensures { result ≡ length (written (L.form machines first) figures.now) }
-{
-    let mut place = Some(first);
-    let mut length = 0;
-    for figure in figures {
-        let Some(here) = place else { unreachable!() };
-        length += here.due().key.text().len() + width(*figure) + 1;
-        place = here.after(machines, *figure);
-    }
-    length
-}
-
-// Writes those lines from the output's start on.
+// Writes the lines of figures that fill a form, from the output's start on.
 fn put_form<L: FormLine>(figures: &[u64], first: L, machines: u64, output: &mut [u8]) -> usize
-    requires figures { AskWrite (L.form machines first) machines figures.now }
+    requires figures { AskPut (L.form machines first) machines figures.now }
     requires room { length (written (L.form machines first) figures.now) ≤ length output.old }
     ensures { Puts output.old 0 (written (L.form machines first) figures.now) output.new result }
 {
@@ -124,17 +112,18 @@ impl Unwritten {
     }
 }
 
-// Writes those lines if the output has room for them, and answers how many bytes they have.
+// Writes the lines of figures, and answers how many bytes they have.
 pub fn write_form<L: FormLine>(
     figures: &[u64],
     first: L,
     machines: u64,
     output: &mut [u8],
 ) -> Result<usize, Unwritten>
-    requires { AskWrite (L.form machines first) machines figures.now }
-    ensures { Writes 0 (written (L.form machines first) figures.now) output.old output.new result }
+    requires { AskWrite machines figures.now }
+    ensures { Writes (cond (fills (L.form machines first) figures.now) 0 20) (written (L.form machines first) figures.now) output.old output.new result }
 {
-    if output.len() < form_length(figures, first, machines) {
+    let length = measured(figures, first, machines).ok_or(Unwritten::Unwritable)?;
+    if output.len() < length {
         return Err(Unwritten::NoRoom);
     }
     Ok(put_form(figures, first, machines, output))

@@ -1,36 +1,24 @@
 // The job reader, and a job as a row of figures: its lines' figures in their order, lent, and read through functions that alone know the places.
-ghost use Rattle.std.specs.Prelude.{◌≡◌, ◌+◌, ◌*◌, ◌≤◌, length, take, drop};
-ghost use Rattle.rules.specs.Words.{most_tasks, most_messages, most_machines};
-ghost use Rattle.texts.specs.JobText.{head_size, task_size, message_size, groups, filled, task_said, message_said, job_said};
-ghost use Rattle.texts.specs.JobText.{task_of_zeros, message_of_zeros, message_figures};
+ghost use Rattle.std.specs.Prelude.{◌≡◌, ℕ, ◌+◌, ◌*◌, ◌≤◌, ◌<◌, length, take, drop};
+ghost use Rattle.rules.specs.Words.{most_machines};
+ghost use Rattle.texts.specs.JobText.{head_size, task_size, message_size, task_said, message_said, job_said};
+ghost use Rattle.texts.specs.JobText.{message_figures};
 ghost use Rattle.texts.specs.Reader.{Reads, default_machines};
 ghost use Rattle.lines.specs.Put.{Puts};
-ghost use Rattle.texts.specs.Rows.{MachineCount, AskTask, AskTasks, AskMessage, AskMessages, CountsInRange, Countable};
+ghost use Rattle.texts.specs.Rows.{MachineCount, AskTask, AskMessage, CountsInRange, Countable};
 ghost use Rattle.texts.specs.Rows.{TaskPut, JobPut, AskSent, sent_figures};
 
 use crate::forms::read_form;
 use crate::job_lines::JobLine;
 use lines::line::{Reading, Unread};
+use rules::arrays::filled;
 use rules::{DEFAULT_MACHINES, Job, MACHINES, MESSAGES, Message, TASKS, Task};
 
-// The figures that a job has at the most.
+// The figures that a job has at the most. A job is a row of figures in between since one engine serves every text, and C hands figures.
 pub const FIGURES: usize = 4 + TASKS * (2 + MACHINES) + MESSAGES * 3;
 
-// What stands past a job's counts.
-const NO_TASK: Task = Task {
-    deadline: 0,
-    dispatch: 0,
-    runs: [0; MACHINES],
-};
-
-const NO_MESSAGE: Message = Message {
-    sender: 0,
-    receiver: 0,
-    volume: 0,
-};
-
 // The task at an index, from 0.
-pub fn task_at(row: &[u64; FIGURES], machines: usize, index: usize) -> Task
+fn task_at(row: &[u64; FIGURES], machines: usize, index: usize) -> Task
     requires { AskTask machines index }
     ensures { result ≡ task_said (take (task_size machines) (drop (head_size + index * task_size machines) row.now)) }
 {
@@ -45,7 +33,7 @@ pub fn task_at(row: &[u64; FIGURES], machines: usize, index: usize) -> Task
 }
 
 // The message at an index, from 0, where the figures of messages begin at `from`.
-pub fn message_at(row: &[u64; FIGURES], from: usize, index: usize) -> Message
+fn message_at(row: &[u64; FIGURES], from: usize, index: usize) -> Message
     requires { AskMessage from index }
     ensures { result ≡ message_said (take message_size (drop (from + index * message_size) row.now)) }
 {
@@ -55,28 +43,6 @@ pub fn message_at(row: &[u64; FIGURES], from: usize, index: usize) -> Message
         receiver: row[at + 1],
         volume: row[at + 2],
     }
-}
-
-fn tasks_in(row: &[u64; FIGURES], machines: usize, count: usize) -> [Task; TASKS]
-    requires { AskTasks machines count }
-    ensures { result ≡ filled task_of_zeros most_tasks (groups task_said (task_size machines) count (drop head_size row.now)) }
-{
-    let mut tasks = [NO_TASK; TASKS];
-    for index in 0..count {
-        tasks[index] = task_at(row, machines, index);
-    }
-    tasks
-}
-
-fn messages_in(row: &[u64; FIGURES], from: usize, count: usize) -> [Message; MESSAGES]
-    requires { AskMessages from count }
-    ensures { result ≡ filled message_of_zeros most_messages (groups message_said message_size count (drop from row.now)) }
-{
-    let mut messages = [NO_MESSAGE; MESSAGES];
-    for index in 0..count {
-        messages[index] = message_at(row, from, index);
-    }
-    messages
 }
 
 // The job that a row of figures says, whose counts are in range.
@@ -91,9 +57,9 @@ pub fn job_of(row: &[u64; FIGURES], machines: u64) -> Job
         number: row[0],
         scheduling: row[1],
         taskcount,
-        tasks: tasks_in(row, machines as usize, taskcount as usize),
+        tasks: filled(taskcount as usize, |i| task_at(row, machines as usize, i)),
         messagecount,
-        messages: messages_in(row, at + 1, messagecount as usize),
+        messages: filled(messagecount as usize, |i| message_at(row, at + 1, i)),
     }
 }
 
@@ -129,7 +95,7 @@ pub fn job_figures(row: &mut [u64; FIGURES], machines: u64, job: &Job) -> usize
     row[1] = job.scheduling;
     row[2] = job.taskcount;
     let mut at = 3;
-    for task in &job.tasks[..job.taskcount as usize] {
+    for task in job.tasks() {
         at = put_task(row, at, machines as usize, task);
     }
     row[at] = job.messagecount;
@@ -141,7 +107,7 @@ fn put_messages(row: &mut [u64], from: usize, job: &Job) -> usize
     ensures { Puts row.old from (sent_figures job.now) row.new result }
 {
     let mut at = from;
-    for message in &job.messages[..job.messagecount as usize] {
+    for message in job.messages() {
         at = put_message(row, at, message);
     }
     at
@@ -154,10 +120,7 @@ pub fn read_job_over(text: &[u8], machines: u64) -> Result<Reading<Job>, Unread>
 {
     let mut row = [0; FIGURES];
     let read = read_form(text, JobLine::Number, machines, &mut row)?;
-    Ok(Reading {
-        value: job_of(&row, machines),
-        next: read.next,
-    })
+    Ok(read.map(|_| job_of(&row, machines)))
 }
 
 // The same for the default table.

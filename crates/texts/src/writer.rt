@@ -3,7 +3,7 @@ ghost use Rattle.texts.specs.Reader.{default_machines};
 ghost use Rattle.texts.specs.Writer.{WritesFigures, WritesJob};
 ghost use Rattle.texts.specs.Rows.{MachineCount};
 
-use crate::forms::{Unwritten, fills_form, write_form};
+use crate::forms::{Unwritten, write_form};
 use crate::job::{FIGURES, job_figures};
 use crate::job_lines::JobLine;
 use rules::{DEFAULT_MACHINES, Job, MESSAGES, TASKS};
@@ -13,11 +13,11 @@ pub fn write_figures(figures: &[u64], machines: u64, output: &mut [u8]) -> Resul
     requires { MachineCount machines }
     ensures { WritesFigures machines figures.now output.old output.new result }
 {
-    if fills_form(figures, JobLine::Number, machines) {
-        write_form(figures, JobLine::Number, machines, output)
-    } else {
-        Err(Unwritten::Unwritable)
+    // No job has more lines.
+    if FIGURES < figures.len() {
+        return Err(Unwritten::Unwritable);
     }
+    write_form(figures, JobLine::Number, machines, output)
 }
 
 // Writes the text of a job, for a table of so many machines. Its counts are judged before a row is filled, which has room for no more.

@@ -1,26 +1,36 @@
 -- `screening::first_infeasible` meets its contract: none of the tasks passed is infeasible.
-use lib.Seq.{take_all}
-use Rattle.screening.proofs.Feasible.{task_asked, first_found, none_found}
+use mathlib.Core.Bool.{true, false}
+use Rattle.std.proofs.Common.{rules}
+use Rattle.std.proofs.lemmas.Iterator.{YieldsList-from_slice, IsFirst-from_position}
+use Rattle.std.proofs.lemmas.Iterator.Adapters.{serves_from_places}
+use Rattle.screening.specs.Screens.{InfeasibleIs}
+use Rattle.screening.proofs.Feasible.{task_asked, first_is}
 use Rattle.screening.proofs.first_infeasible.Goals as goal
 
-pub tasks_of-task-items-requires : goal.tasks_of-task-items-requires
-tasks_of-task-items-requires c = c.requires.few
-
-pub infeasible-requires : goal.infeasible-requires
-infeasible-requires c = task_asked c.tasks_of-task-items.ensures c.args.clock c.requires c.loop-index.index c.loop-index-test.true
-
-pub returns-then-infeasible : goal.returns-then-infeasible
-returns-then-infeasible c =
-    first_found
-    c.tasks_of-task-items.ensures
-    c.args.clock
-    c.loop-index.index
-    c.loop-index-test.true
-    c.loop-index.invariant
-    c.infeasible.ensures
-    c.if-infeasible.true
+pub position-requires-clause-callable : goal.position-requires-clause-callable
+position-requires-clause-callable c =
+    serves_from_places
+    (YieldsList-from_slice c.tasks.result.now c.iter.ensures.rest)
+    (λ x q k. search rules)
+    (λ x k h e. search (rules, task_asked (record { listed = c.tasks.ensures.listed; long = c.tasks.ensures.long }) c.args.clock c.requires k x.now h e))
 
 pub returns : goal.returns
 returns c =
-    let whole = take_all c.loop-index.index c.tasks_of-task-items.result.now c.loop-index-test.false in
-    none_found c.tasks_of-task-items.ensures c.args.clock (rw whole at c.loop-index.invariant)
+    let a = c.args in
+    first_is
+    (record { listed = c.tasks.ensures.listed; long = c.tasks.ensures.long })
+    a.clock
+    c.position.result
+    c.map.result
+    (IsFirst-from_position
+    _
+    _
+    c.position.result
+    (λ task. InfeasibleIs task a.machines a.clock true)
+    (λ task. InfeasibleIs task a.machines a.clock false)
+    c.position.ensures.ran
+    (YieldsList-from_slice c.tasks.result.now c.iter.ensures.rest)
+    (λ x q k. search rules)
+    (λ x q k. search rules))
+    c.map.ensures.cases
+    (λ i t k. search rules)

@@ -1,13 +1,9 @@
--- `lines::figures::width` meets its contract: `count` digits are counted, and those of `rest` are not.
-use native.Mathlib.Omega.{arith}
-use Rattle.lines.proofs.Put.{counted_more, counted_all, count_bound}
+-- `lines::figures::width` meets its contract: a number has one digit more than the logarithm says.
+use Rattle.std.proofs.Common.{rules}
+use Rattle.lines.proofs.Decimals.{logarithm_width}
 use Rattle.lines.proofs.figures.width.Goals as goal
 
-pub overflow_add-count : goal.overflow_add-count
-overflow_add-count c = let bound = count_bound c.loop-rest.invariant (omega arith) in omega arith
-
-pub loop-rest-preserved : goal.loop-rest-preserved
-loop-rest-preserved c = counted_more c.loop-rest.invariant c.loop-rest-test.true
-
 pub returns : goal.returns
-returns c = counted_all c.loop-rest.invariant c.loop-rest-test.false
+returns c =
+    let l = c.checked_ilog10.ensures in
+    logarithm_width c.args.n c.checked_ilog10.result l.none l.power_le l.next_power_gt c.map_or.ensures (λ k said. search rules)

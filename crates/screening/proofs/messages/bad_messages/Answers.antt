@@ -1,34 +1,41 @@
--- `screening::messages::bad_messages` meets its contract: the messages before the next one are in range and ascend.
-use mathlib.Core.Path.{sym, ◌∙◌}
-use Rattle.screening.proofs.Ascending.{ascend_none, message_bad, order_bad, ascend_more, messages_good}
+-- `screening::messages::bad_messages` meets its contract: a message out of range, or two that do not ascend.
+use mathlib.Core.Path.{◌∙◌}
+use Rattle.std.proofs.Common.{rules}
+use Rattle.std.proofs.lemmas.Iterator.{YieldsList-from_slice}
+use Rattle.std.proofs.lemmas.Iterator.Search.{any_from_yields_List}
+use Rattle.std.proofs.lemmas.List.Sorted.{answers_always}
+use Rattle.rules.specs.Words.{messages_of}
+use Rattle.rules.specs.Refusals.{message_out_of_range}
+use Rattle.screening.proofs.Ascending.{before, ascending_is, one_outside, none_outside}
 use Rattle.screening.proofs.messages.bad_messages.Goals as goal
-use Rattle.screening.proofs.messages.bad_messages.Goals.{then-message_outside-via-then-message_outside, then-message_outside-via-else-message_outside+then-not-stands_before}
 
-pub returns-then-message_outside : goal.returns-then-message_outside
-returns-then-message_outside c =
-    elim c.then-message_outside.branch [
-      | then-message_outside-via-then-message_outside w ↦
-          message_bad c.loop-msg.invariant c.loop-msg-test.true c.message_outside.ensures w.if-message_outside.true
-      | then-message_outside-via-else-message_outside+then-not-stands_before w ↦
-          order_bad
-          c.loop-msg.invariant
-          c.loop-msg-test.true
-          c.message_outside.ensures
-          w.if-message_outside.false
-          (sym w.stands_before.ensures ∙ w.if-not-stands_before.true)
-    ]
+pub returns-then-any : goal.returns-then-any
+returns-then-any c =
+    let j = c.args.job.now in
+    one_outside
+    j
+    (any_from_yields_List
+    (message_out_of_range j)
+    _
+    _
+    c.any.result
+    c.any.ensures.ran
+    (YieldsList-from_slice _ (c.iter.ensures.rest ∙ c.messages-messages.ensures))
+    (λ x b q k. search rules))
+    c.if-any.true
 
-pub loop-msg-preserved : goal.loop-msg-preserved
-loop-msg-preserved c =
-    ascend_more
-    c.loop-msg.invariant
-    c.loop-msg-test.true
-    c.message_outside.ensures
-    c.if-message_outside.false
-    (sym c.stands_before.ensures ∙ c.if-not-stands_before.false)
-
-pub returns : goal.returns
-returns c = messages_good c.loop-msg.invariant c.loop-msg-test.false
-
-pub loop-msg-init : goal.loop-msg-init
-loop-msg-init c = ascend_none c.args.job.now
+pub returns-else-any : goal.returns-else-any
+returns-else-any c =
+    let j = c.args.job.now in
+    none_outside
+    j
+    (any_from_yields_List
+    (message_out_of_range j)
+    _
+    _
+    c.any.result
+    c.any.ensures.ran
+    (YieldsList-from_slice _ (c.iter.ensures.rest ∙ c.messages-messages.ensures))
+    (λ x b q k. search rules))
+    c.if-any.false
+    (ascending_is (messages_of j) _ (rw c.messages-messages.ensures at (c.is_sorted_by.ensures.cases before (answers_always _ _ _ (λ f a r g h. search rules)))))

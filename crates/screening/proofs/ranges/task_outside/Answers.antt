@@ -6,8 +6,8 @@ use borrow.Author.Tests.{tests}
 use Rattle.std.proofs.Common.{rules}
 use Rattle.std.proofs.lemmas.Iterator.{YieldsList-from_slice}
 use Rattle.std.proofs.lemmas.Iterator.Search.{any_from_yields_List}
-use Rattle.rules.specs.Words.{horizon, largest_time}
-use Rattle.screening.proofs.Ranged.{inside, runs_decide}
+use Rattle.rules.specs.Words.{largest_time}
+use Rattle.screening.proofs.Ranged.{runs_decide}
 use Rattle.screening.proofs.ranges.task_outside.Goals as goal
 
 pub returns-else-task-gt-LONGEST : goal.returns-else-task-gt-LONGEST
@@ -16,8 +16,8 @@ returns-else-task-gt-LONGEST c =
     runs_decide
     c.any.result
     (omega arith)
-    (inside 1 horizon _ c.if-deadline-lt1.false c.if-deadline-gt-HORIZON.false)
-    c.if-task-gt-LONGEST.false
+    (grind (arith, tests))
+    (grind (arith, tests))
     (any_from_yields_List
     (ltb largest_time)
     _

@@ -13,4 +13,4 @@ room s = let all = s.requires.room in simp length-take (omega arith)
 
 pub loop-message-preserved : goal.loop-message-preserved
 loop-message-preserved c =
-    laid_more c.loop-message.invariant _ (room (goal.at.loop-message-preserved c).Start) c.loop-message-test.true (omega arith) c.put_message-at.ensures
+    laid_more c.loop-message.invariant _ (rw c.messages-message-items.ensures (room (goal.at.loop-message-preserved c).Start)) c.loop-message-test.true (omega arith) c.put_message-at.ensures

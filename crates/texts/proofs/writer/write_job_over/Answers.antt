@@ -1,7 +1,8 @@
 -- `texts::writer::write_job_over` meets its contract: counts out of range are refused, and a job's own figures are written as its text.
 use Rattle.texts.specs.JobText.{written_job}
 use Rattle.texts.specs.Laws.{Sized}
-use Rattle.texts.proofs.JobWriting.{unfit_unwritten, many_tasks, many_messages, row_front, row_written}
+use Rattle.texts.proofs.JobWriting.{many_tasks, many_messages, row_front, row_written}
+use Rattle.texts.proofs.Writers.{unfit_unwritten}
 use Rattle.texts.proofs.writer.write_job_over.Goals as goal
 use Rattle.texts.proofs.writer.write_job_over.Goals.{then-job-via-then-job, then-job-via-else-job+then-job-2}
 

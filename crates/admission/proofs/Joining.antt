@@ -15,7 +15,7 @@ use Rattle.placement.specs.Own.{nth_entry, entry_for, OwnRows}
 use Rattle.timetable.specs.declared.Timetable.{Timetable}
 use Rattle.timetable.specs.Marks.{JobsOf}
 use Rattle.admission.specs.Submitted.{AskJoin, JoinedIs}
-use Rattle.admission.proofs.Owning.{rows_to, rows_none, rows_all, line_to_long, line_to_more}
+use Rattle.admission.proofs.Owning.{rows_to, rows_all, line_to_long, line_to_more}
 
 abbrev Carry : List Row → (job : ℕ) → Type 0
 Carry new job = (row : Row) → Memᴰ row new → row.job ≡ job
@@ -33,15 +33,6 @@ pub record Joining (t₀ : Timetable) (own : List Entry) (held job last : ℕ) (
       lasts job ≡ last → t₀.notes ≡ notes_of lasts (line_of rows) → t.notes ≡ notes_of lasts (line_of (rows_to rows new i))
 
 module _ {t₀ : Timetable} {own : List Entry} {held job last : ℕ} where
-  pub joining_none : AskJoin t₀ own held → length t₀.jobs ≡ spans_room → Joining t₀ own held job last t₀ 0
-  joining_none ask jobs_long = record {
-    beside = refl;
-    jobs_long = jobs_long;
-    notes_long = ask.notes_long;
-    jobs_are = λ rows new held_is own_is carry is. subst (λ l. JobsOf (line_of l) t₀.jobs) (sym (rows_none rows new)) is;
-    notes_are = λ rows new lasts held_is own_is carry same is. subst (λ l. t₀.notes ≡ notes_of lasts (line_of l)) (sym (rows_none rows new)) is;
-  }
-
   module _ {t : Timetable} {i : ℕ} (so_far : Joining t₀ own held job last t i) where
     pub joining_all : {items : List Entry} → items ≡ own → i ≤ length items → length items ≤ i → JoinedIs t₀ own held job last t
     joining_all lent most over =
@@ -93,11 +84,8 @@ module _ {t₀ : Timetable} {own : List Entry} {held job last : ℕ} where
       pub job_asked : AskInsert t.jobs (held + i) entry.at
       job_asked = record { room = omega (arith, so_far.jobs_long, room); within = within_line }
 
-      pub note_asked : AskInsert t.notes (held + i) entry.at
-      note_asked = record { room = omega (arith, so_far.notes_long, room); within = within_line }
-
       abbrev note : Note
-      note = record { holder = entry.holder; cost = entry.cost; last = last }
+      note = record { holder = entry.booking.holder; cost = entry.booking.cost; last = last }
 
       module _ {jobs' : List ℕ} {notes' : List Note} (first : InsertedAt t.jobs (held + i) entry.at job jobs')
           (second : InsertedAt t.notes (held + i) entry.at note notes') where
@@ -126,10 +114,7 @@ module _ {t₀ : Timetable} {own : List Entry} {held job last : ℕ} where
           next_notes :
               (lasts : ℕ → ℕ) → lasts job ≡ last → t₀.notes ≡ notes_of lasts (line_of rows) → notes' ≡ notes_of lasts (line_of (rows_to rows new (i + 1)))
           next_notes lasts same is =
-              let holder : entry.holder ≡ its.holder = ap (λ e. e.holder) entry_is in
-              let cost : entry.cost ≡ its.cost = ap (λ e. e.cost) entry_is in
-              let end : lasts its.job ≡ last = ap lasts carried ∙ same in
-              let noted : note_of lasts its ≡ note = rw (holder, cost, end) refl in
+              let noted : note_of lasts its ≡ note = rw (ap (λ e. e.booking) entry_is, carried, same) refl in
               column_inserted
               (note_of lasts)
               (goes held_is own_is)

@@ -18,9 +18,8 @@ use Rattle.rules.specs.Placing.{booked}
 use Rattle.rules.specs.Refusals.{placing, submits, step}
 use Rattle.rules.proofs.Sequences.{clash, any_none}
 use Rattle.rules.proofs.Bounds.{scheduling_figure}
-use Rattle.timeline.specs.RowLine.{spans_room}
 use Rattle.timeline.specs.Lines.{LineOf}
-use Rattle.timeline.specs.declared.line.Timeline.{Timeline}
+use Rattle.timeline.specs.Spans.{Spans}
 use Rattle.placement.specs.declared.own.Entry.{Entry}
 use Rattle.placement.specs.declared.place.Late.{Late}
 use Rattle.placement.specs.Placements.{Placeable, AskPlace, placing_of, Placed, PlacedIs}
@@ -40,7 +39,7 @@ module _ {t : Timetable} {s : Setup} {st : State} (is : TimetableOf s st t) wher
   }
 
   -- a timeline of the same rows is the same
-  line_same : {line : Timeline spans_room} → LineOf st.rows line → line ≡ t.line
+  line_same : {line : Spans} → LineOf st.rows line → line ≡ t.line
   line_same of =
       let begins = of.spans.begins_are ∙ sym line_held.spans.begins_are in
       let ends = of.spans.ends_are ∙ sym line_held.spans.ends_are in
@@ -64,7 +63,7 @@ module _ {t : Timetable} {s : Setup} {st : State} (is : TimetableOf s st t) wher
     }
 
     placed_at :
-        {line : Timeline spans_room} {own : List Entry} {r : Result Admission Late} → PlacedIs s j (t.clock + j.scheduling) t.line line own r →
+        {line : Spans} {own : List Entry} {r : Result Admission Late} → PlacedIs s j (t.clock + j.scheduling) t.line line own r →
         Placed s (st.calendar.clock + j.scheduling) st.rows j line own r
     placed_at places = rw (← base_is) (places st.rows placeable)
 
@@ -77,7 +76,7 @@ module _ {t : Timetable} {s : Setup} {j : Job} (asked : AskJudged t s j) where
 
   -- What was placed.
 
-  module _ {line : Timeline spans_room} {own : List Entry} {r : Result Admission Late} (places : PlacedIs s j (t.clock + j.scheduling) t.line line own r) where
+  module _ {line : Spans} {own : List Entry} {r : Result Admission Late} (places : PlacedIs s j (t.clock + j.scheduling) t.line line own r) where
     pub undo_asked : AskUndo line own
     undo_asked =
         let placed = placed_at asked.is asked.passed places in
@@ -92,7 +91,7 @@ module _ {t : Timetable} {s : Setup} {j : Job} (asked : AskJudged t s j) where
 
     -- a refusal, with the spans taken off again
     refuses :
-        {line' : Timeline spans_room} → Undone line own line' → (why : Refusal) →
+        {line' : Spans} → Undone line own line' → (why : Refusal) →
         ((st : State) → TimetableOf s st t → Passed s st j → (step s st (submits j)).answer ≡ refused why) →
         JudgedIs t s j (record t { line = line' }) own (Err why)
     refuses {line'} undone why told =
@@ -107,7 +106,7 @@ module _ {t : Timetable} {s : Setup} {j : Job} (asked : AskJudged t s j) where
         }
 
     pub judged_late :
-        {l : Late} → r ≡ Err l → {line' : Timeline spans_room} → Undone line own line' →
+        {l : Late} → r ≡ Err l → {line' : Spans} → Undone line own line' →
         JudgedIs t s j (record t { line = line' }) own (Err (R.Missed l.task))
     unfolding placing
     judged_late {l} e undone =
@@ -131,7 +130,7 @@ module _ {t : Timetable} {s : Setup} {j : Job} (asked : AskJudged t s j) where
         rows_held = omega (arith, (line_held is).count_is, placed.own_is.long)
 
       pub judged_full :
-          row_limit < t.line.count + length own → {line' : Timeline spans_room} → Undone line own line' →
+          row_limit < t.line.count + length own → {line' : Spans} → Undone line own line' →
           JudgedIs t s j (record t { line = line' }) own (Err R.NoRoom)
       judged_full over undone =
           refuses

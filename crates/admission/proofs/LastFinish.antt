@@ -1,14 +1,13 @@
--- The last finish of a job's own rows, found row by row: it is what is left of a row's end past the tick room.
-use mathlib.Core.Path.{◌≡◌, refl, ap, ◌∙◌}
-use mathlib.Core.List.{List, [], ◌∷◌, ◌++◌, map, map-append, Memᴰ}
-use Prim.Native.Nat.{ℕ, ◌+◌, ◌%◌, ◌≤◌, ◌<◌, max}
+-- The last finish of a job's own rows: a finish is what an end leaves past the tick room.
+use mathlib.Core.Path.{◌≡◌, ap, sym, ◌∙◌}
+use mathlib.Core.List.{List, [], ◌∷◌, map, Memᴰ}
+use Prim.Native.Nat.{ℕ, ◌%◌, ◌<◌, max}
 use native.Mathlib.Nat.{mul-add-mod_self_right, mod-eq_of_lt}
 use native.Mathlib.Omega.{arith}
-use native.Mathlib.Numerals.{add-one}
-use lib.ListN.{length, get_or, take}
-use lib.Seq.{take-suc, take_all}
-use Rattle.std.specs.Ordering.{nat_cmp, ord_max}
-use Rattle.std.proofs.lemmas.Bool.Decides.{nat_tests}
+use lib.ListN.{length, get_or, length-map}
+use Rattle.std.proofs.Common.{fold}
+use Rattle.std.proofs.lemmas.Grind.{same_number_lists}
+use Rattle.std.proofs.lemmas.List.{get_or-map}
 use Rattle.rules.specs.declared.Row.{Row}
 use Rattle.rules.specs.declared.Setup.{Setup}
 use Rattle.rules.specs.Words.{resource}
@@ -19,57 +18,36 @@ use Rattle.rules.proofs.Sequences.{get_or_mem}
 use Rattle.timeline.specs.Timeline.{tick_room}
 use Rattle.timeline.specs.RowLine.{row_end}
 use Rattle.placement.specs.declared.own.Entry.{Entry}
-use Rattle.placement.specs.Own.{nth_entry, OwnRows}
+use Rattle.placement.specs.Own.{no_entry, OwnRows}
 use Rattle.timetable.specs.Derived.{most_of}
 use Rattle.admission.specs.Submitted.{LastIs}
 
-abbrev finishes : List Row → List ℕ
-finishes rows = map (λ row. row.finish) rows
-
-most_more : (l : List ℕ) (n : ℕ) → most_of (l ++ (n ∷ [])) ≡ max (most_of l) n
+most_folded : {A : Type 0} (figure : A → ℕ) (n : ℕ) (l : List A) → fold (λ m x. max m (figure x)) n l ≡ max n (most_of (map figure l))
 unfolding most_of
-most_more [] n = omega arith
-most_more (m ∷ l) n = let below = most_more l n in omega arith
-
-finishes_more :
-    (rows : List Row) (i : ℕ) → i < length rows → finishes (take (i + 1) rows) ≡ finishes (take i rows) ++ ((get_or rows i no_row).finish ∷ [])
-finishes_more rows i within =
-    ap (λ n. finishes (take n rows)) (add-one i)
-    ∙ ap finishes (take-suc rows i no_row within)
-    ∙ map-append (λ row. row.finish) (take i rows) (get_or rows i no_row ∷ [])
+most_folded figure n [] = omega arith
+most_folded figure n (x ∷ l) = let rest = most_folded figure (max n (figure x)) l in omega arith
 
 finish_left : (s : Setup) (row : Row) → RowInRange s row → row_end row % tick_room ≡ row.finish
 finish_left s row range =
     mul-add-mod_self_right (resource_number (resource row)) tick_room row.finish ∙ mod-eq_of_lt (let ends = range.ends in omega arith)
 
--- the library's greater of two numbers
-greater : (a b : ℕ) → ord_max nat_cmp a b ≡ max a b
-greater a b = grind (arith, nat_tests)
+-- the finish of the row
+abbrev pub finish_of : Entry → ℕ
+finish_of entry = entry.booking.end % tick_room
 
--- after i rows
-pub record LastSoFar (own : List Entry) (last i : ℕ) : Type 0 where
-  pub is :
-      (s : Setup) (rows new : List Row) → OwnRows rows new own → ((row : Row) → Memᴰ row new → RowInRange s row) →
-      last ≡ most_of (finishes (take i new))
+module _ {s : Setup} {rows new : List Row} {own : List Entry} (own_is : OwnRows rows new own) (range : (row : Row) → Memᴰ row new → RowInRange s row) where
+  finishes_are : map finish_of own ≡ map (λ row. row.finish) new
+  finishes_are =
+      same_number_lists
+      _
+      _
+      (length-map own finish_of ∙ own_is.long ∙ sym (length-map new (λ row. row.finish)))
+      (λ i below.
+      let there : i < length new = omega (arith, length-map own finish_of, own_is.long) in
+      get_or-map finish_of own i no_entry 0 (omega (arith, own_is.long))
+      ∙ ap finish_of (own_is.is i there)
+      ∙ finish_left s (get_or new i no_row) (range _ (get_or_mem new i no_row there))
+      ∙ sym (get_or-map (λ row. row.finish) new i no_row 0 there))
 
-module _ {own : List Entry} where
-  pub last_none : LastSoFar own 0 0
-  unfolding most_of
-  last_none = record { is = λ s rows new own_is range. refl }
-
-  module _ {last i : ℕ} (so_far : LastSoFar own last i) where
-    pub last_more : {last' : ℕ} → i < length own → last' ≡ ord_max nat_cmp last ((nth_entry own i).end % tick_room) → LastSoFar own last' (i + 1)
-    last_more more later = record {
-      is =
-          λ s rows new own_is range.
-          let there : i < length new = omega (arith, own_is.long) in
-          let row = get_or new i no_row in
-          let ends : (nth_entry own i).end ≡ row_end row = ap (λ e. e.end) (own_is.is i there) in
-          let finish : (nth_entry own i).end % tick_room ≡ row.finish
-          = ap (λ k. k % tick_room) ends ∙ finish_left s row (range row (get_or_mem new i no_row there)) in
-          rw (finishes_more new i there, most_more, ← so_far.is s rows new own_is range, ← finish) (later ∙ greater last _);
-    }
-
-    pub last_all : length own ≤ i → LastIs own last
-    last_all over s rows new own_is range =
-        so_far.is s rows new own_is range ∙ ap (λ l. most_of (finishes l)) (take_all i new (omega (arith, own_is.long)))
+pub last_is : {own : List Entry} {last : ℕ} → last ≡ fold (λ m entry. max m (finish_of entry)) 0 own → LastIs own last
+last_is {own} folded s rows new own_is range = omega (arith, folded, most_folded finish_of 0 own, ap most_of (finishes_are own_is range))

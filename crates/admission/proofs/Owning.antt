@@ -1,6 +1,6 @@
 -- The line of the rows held and of the first so many of a job's own: how long it is, and one row more, which goes where its figures say.
 use mathlib.Core.Path.{◌≡◌, sym, ap, ◌∙◌}
-use mathlib.Core.List.{List, ◌++◌, append-nil, append_assoc}
+use mathlib.Core.List.{List, ◌++◌, append_assoc}
 use Prim.Native.Nat.{ℕ, ◌+◌, ◌≤◌, ◌<◌}
 use native.Mathlib.Omega.{arith}
 use native.Mathlib.Numerals.{add-one}
@@ -14,9 +14,6 @@ use Rattle.timeline.proofs.RowLines.{line_more, line_long}
 module _ (rows new : List Row) where
   abbrev pub rows_to : (i : ℕ) → List Row
   rows_to i = rows ++ take i new
-
-  pub rows_none : rows_to 0 ≡ rows
-  rows_none = append-nil rows
 
   pub rows_all : (i : ℕ) → i ≡ length new → rows_to i ≡ rows ++ new
   rows_all i e = ap (λ l. rows ++ l) (ap (λ n. take n new) e ∙ take-length new)

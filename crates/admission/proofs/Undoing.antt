@@ -1,5 +1,5 @@
 -- The spans of a job's own rows taken off the timeline again, the last one first: what is left is the timeline of the rows held and of those still there.
-use mathlib.Core.Path.{◌≡◌, sym, ap, ◌∙◌, subst}
+use mathlib.Core.Path.{◌≡◌, sym, ap, ◌∙◌}
 use mathlib.Core.List.{List, ◌++◌, reverse}
 use Prim.Native.Nat.{ℕ, ◌+◌, ◌-◌, ◌≤◌, ◌<◌}
 use native.Mathlib.Omega.{arith}
@@ -8,16 +8,16 @@ use Rattle.std.proofs.lemmas.List.{get_or-reverse, get_or_default}
 use Rattle.rules.specs.declared.Row.{Row}
 use Rattle.rules.specs.Words.{row_limit}
 use Rattle.rules.specs.Placing.{no_row}
-use Rattle.timeline.specs.declared.line.Timeline.{Timeline}
-use Rattle.timeline.specs.Grown.{AskOff, SpanOff}
+use Rattle.timeline.specs.Spans.{Spans}
+use Rattle.timeline.specs.Grown.{SpanOff}
 use Rattle.timeline.specs.Lines.{LineOf}
 use Rattle.timeline.specs.RowLine.{spans_room, row_begin, row_end, insert_row, line_of, GoesAt}
-use Rattle.timeline.proofs.ColumnLaws.{column_long, column_removed, begin_blank, end_blank}
+use Rattle.timeline.proofs.ColumnLaws.{column_removed, begin_blank, end_blank}
 use Rattle.timeline.proofs.RowLines.{line_long}
 use Rattle.placement.specs.declared.own.Entry.{Entry}
 use Rattle.placement.specs.Own.{no_entry, nth_entry, OwnRows}
-use Rattle.admission.specs.Submitted.{AskUndo, Undone}
-use Rattle.admission.proofs.Owning.{rows_to, rows_none, rows_all, line_to_long, line_to_more}
+use Rattle.admission.specs.Submitted.{AskUndo}
+use Rattle.admission.proofs.Owning.{rows_to, line_to_long, line_to_more}
 
 -- the last of the entries that are left, once so many are gone
 pub turned :
@@ -28,25 +28,13 @@ turned own gone {entry} more is =
     (below, is ∙ get_or-reverse own gone entry below ∙ get_or_default own (length own - 1 - gone) entry no_entry (omega arith))
 
 -- so many of the own rows are gone
-pub record Undoing (line₀ : Timeline spans_room) (own : List Entry) (line : Timeline spans_room) (gone : ℕ) : Type 0 where
+pub record Undoing (line₀ : Spans) (own : List Entry) (line : Spans) (gone : ℕ) : Type 0 where
   pub is :
       (rows new : List Row) → LineOf (rows ++ new) line₀ → length rows ≤ row_limit → OwnRows rows new own →
       LineOf (rows_to rows new (length own - gone)) line
 
-module _ {line₀ : Timeline spans_room} {own : List Entry} where
-  pub undoing_none : Undoing line₀ own line₀ 0
-  undoing_none = record {
-    is =
-        λ rows new is few own_is.
-        subst (λ l. LineOf l line₀) (sym (rows_all rows new (length own - 0) (omega (arith, own_is.long)))) is;
-  }
-
-  module _ {line : Timeline spans_room} {gone : ℕ} (so_far : Undoing line₀ own line gone) where
-    pub undoing_all : gone ≡ length own → Undone line₀ own line
-    undoing_all all rows new is few own_is =
-        let none : length own - gone ≡ 0 = omega arith in
-        subst (λ l. LineOf l line) (ap (rows_to rows new) none ∙ rows_none rows new) (so_far.is rows new is few own_is)
-
+module _ {line₀ : Spans} {own : List Entry} where
+  module _ {line : Spans} {gone : ℕ} (so_far : Undoing line₀ own line gone) where
     -- the last of the own rows that are left
     module _ (ask : AskUndo line₀ own) (more : gone < length own) {entry : Entry} (read : entry ≡ nth_entry own (length own - 1 - gone)) where
       -- the line with that row, and without it
@@ -86,36 +74,29 @@ module _ {line₀ : Timeline spans_room} {own : List Entry} where
             ∙ omega (arith, below, line_to_long rows new last (omega (arith, below)), line_to_long rows new (last + 1) (omega (arith, below)))
 
         line_without :
-            {line' : Timeline spans_room} → SpanOff line.begins line.ends line.count entry.at line'.begins line'.ends → line'.count + 1 ≡ line.count →
+            {line' : Spans} → SpanOff line entry.at line' →
             LineOf without line'
-        line_without off one_less = record {
+        line_without off = record {
           spans = record {
-            begins_are = column_removed row_begin begin_blank goes without_few (rw (← with_it, ← there.spans.begins_are, ← count_there) off.begins_are);
-            ends_are = column_removed row_end end_blank goes without_few (rw (← with_it, ← there.spans.ends_are, ← count_there) off.ends_are);
+            begins_are = column_removed row_begin goes without_few begin_blank (rw (← with_it, ← there.spans.begins_are, ← count_there) off.begins_are);
+            ends_are = column_removed row_end goes without_few end_blank (rw (← with_it, ← there.spans.ends_are, ← count_there) off.ends_are);
           };
-          count_is = omega (arith, count_there, line_long without);
+          count_is = let one_less = off.count_is in omega (arith, count_there, line_long without);
         }
 
       pub undoing_more :
-          {line' : Timeline spans_room} → SpanOff line.begins line.ends line.count entry.at line'.begins line'.ends → line'.count + 1 ≡ line.count →
+          {line' : Spans} → SpanOff line entry.at line' →
           Undoing line₀ own line' (gone + 1)
-      undoing_more off one_less = record {
+      undoing_more off = record {
         is =
             λ rows new is few own_is.
             let same : length own - (gone + 1) ≡ length own - 1 - gone = omega arith in
-            rw same (line_without is few own_is off one_less);
+            rw same (line_without is few own_is off);
       }
 
-      -- what is asked of each column
-      pub off_asked : AskOff line.begins line.ends line.count entry.at
+      -- the span that is taken off is one of them
+      pub off_asked : entry.at < line.count
       off_asked =
           let count = count_there ask.line_is ask.few ask.own_is in
-          let few = without_few ask.line_is ask.few ask.own_is in
-          let on = there ask.line_is ask.few ask.own_is in
           let within = (goes ask.line_is ask.few ask.own_is).within in
-          let all = line_of (rows_to ask.rows ask.new (length own - gone)) in
-          let all_few : length all ≤ spans_room = omega (arith, on.count_is, line_long (rows_to ask.rows ask.new (length own - gone))) in
-          record {
-            begins_ask = record { room = omega (arith, ap length on.spans.begins_are, column_long row_begin all all_few); within = omega arith };
-            ends_ask = record { room = omega (arith, ap length on.spans.ends_are, column_long row_end all all_few); within = omega arith };
-          }
+          omega arith

@@ -13,7 +13,7 @@ use Rattle.rules.specs.Withdrawing.{admit}
 use Rattle.rules.specs.Refusals.{submits, step, first_infeasible}
 use Rattle.rules.specs.Demands.{InRange}
 use Rattle.rules.specs.Bounds.{RowInRange}
-use Rattle.timeline.specs.declared.line.Timeline.{Timeline}
+use Rattle.timeline.specs.Spans.{Spans}
 use Rattle.timeline.specs.Lines.{LineOf}
 use Rattle.timeline.specs.RowLine.{most_own, spans_room, line_of, notes_of}
 use Rattle.placement.specs.declared.own.Entry.{Entry}
@@ -41,7 +41,7 @@ pub record TestedIs (t : Timetable) (s : Setup) (j : Job) (r : Result Unit Refus
 
 -- The spans of own rows taken off again.
 
-pub record AskUndo (line : Timeline spans_room) (own : List Entry) : Type 0 where
+pub record AskUndo (line : Spans) (own : List Entry) : Type 0 where
   pub rows : List Row
   pub new : List Row
   pub line_is : LineOf (rows ++ new) line
@@ -49,7 +49,7 @@ pub record AskUndo (line : Timeline spans_room) (own : List Entry) : Type 0 wher
   pub new_few : length new ≤ most_own
   pub own_is : OwnRows rows new own
 
-abbrev pub Undone : (line : Timeline spans_room) → List Entry → (line' : Timeline spans_room) → Type 0
+abbrev pub Undone : (line : Spans) → List Entry → (line' : Spans) → Type 0
 Undone line own line' = (rows new : List Row) → LineOf (rows ++ new) line → length rows ≤ row_limit → OwnRows rows new own → LineOf rows line'
 
 -- Placing, then refusals 7 and 8.
@@ -61,7 +61,7 @@ pub record AskJudged (t : Timetable) (s : Setup) (j : Job) : Type 0 where
   pub passed : Passed s state j
 
 -- an accepted job's rows have joined the timeline, and are in `own`
-pub record Accepted (s : Setup) (st : State) (j : Job) (line : Timeline spans_room) (own : List Entry) (a : Admission) : Type 0 where
+pub record Accepted (s : Setup) (st : State) (j : Job) (line : Spans) (own : List Entry) (a : Admission) : Type 0 where
   pub new : List Row
   pub left_is : (step s st (submits j)).left ≡ admit st new
   pub count_is : a.rows ≡ length new

@@ -67,11 +67,10 @@ fn judged(
 fn last_of(own: &[Entry]) -> u64
     ensures { LastIs own.now result }
 {
-    let mut last = 0;
-    for entry in own {
-        last = last.max(entry.end % TICKS);
-    }
-    last
+    own.iter()
+        .map(|entry| entry.booking.end % TICKS)
+        .max()
+        .unwrap_or(0)
 }
 
 // The numbers and notes of a job's own rows, each put where its span went.
@@ -82,8 +81,8 @@ fn join(timetable: &mut Timetable, own: &Own, held: usize, job: u16, last: u64)
     for (i, entry) in own.as_slice().iter().enumerate() {
         insert_at(&mut timetable.jobs, held + i, entry.at, job);
         let note = Note {
-            holder: entry.holder,
-            cost: entry.cost,
+            holder: entry.booking.holder,
+            cost: entry.booking.cost,
             last,
         };
         insert_at(&mut timetable.notes, held + i, entry.at, note);

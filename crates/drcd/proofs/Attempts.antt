@@ -4,6 +4,7 @@ use mathlib.Core.List.{List, [], ◌∷◌, ◌++◌}
 use Prim.Native.Nat.{ℕ, ◌+◌, ◌*◌, ◌≤◌}
 use native.Mathlib.Omega.{arith}
 use native.Mathlib.Nat.{mul-le-mul}
+use Rattle.std.proofs.Common.{Option}
 use Rattle.rules.specs.declared.Row.{Row}
 use Rattle.rules.specs.declared.Job.{Job}
 use Rattle.rules.specs.declared.Setup.{Setup}
@@ -14,10 +15,9 @@ use Rattle.rules.specs.Bounds.{Between, largest_rate, largest_cost}
 use Rattle.rules.proofs.Sequences.{sum_append}
 use Rattle.rules.proofs.Numbers.{machine_below}
 use Rattle.rules.proofs.Bounds.{task_figures}
-use Rattle.timeline.specs.declared.line.Timeline.{Timeline}
+use Rattle.timeline.specs.Spans.{Spans}
 use Rattle.timeline.specs.Timeline.{known_machine, tick_limit, AskLeast, LeastIs}
-use Rattle.timeline.specs.RowLine.{spans_room}
-use Rattle.timeline.proofs.Drawing.{drawn_asks}
+use Rattle.timeline.proofs.Drawing.{in_room, drawn_asks}
 use Rattle.timeline.proofs.Agreeing.{drawable_found}
 use Rattle.drcd.specs.declared.TaskTurn.{TaskTurn}
 use Rattle.drcd.specs.declared.Attempt.{Attempt}
@@ -26,12 +26,9 @@ use Rattle.drcd.specs.declared.trial.Arrivals.{Arrivals}
 use Rattle.drcd.specs.Trials.{Scene, AskAttempt, TriedIs, rows_upto, IsTrial, AttemptBounds, AttemptIs}
 use Rattle.drcd.proofs.TriedRows.{inputs_all}
 
-module _ {s : Setup} {inputs : List Input} {line : Timeline spans_room} {turn : TaskTurn} {m run : ℕ} (ask : AskAttempt s inputs line turn m run) where
+module _ {s : Setup} {inputs : List Input} {line : Spans} {turn : TaskTurn} {m run : ℕ} (ask : AskAttempt s inputs line turn m run) where
   has_machine : HasMachine m
-  has_machine =
-      let there = ask.inputs_ask.there in
-      let most = ask.inputs_ask.scene.sound.room in
-      record { first = there.first; last = omega arith }
+  has_machine = in_room ask.inputs_ask.scene.sound.room ask.inputs_ask.there
 
   run_at_most : run ≤ largest_time
   run_at_most =
@@ -45,8 +42,8 @@ module _ {s : Setup} {inputs : List Input} {line : Timeline spans_room} {turn : 
       let most : own ≤ largest_rate = omega (arith, ask.inputs_ask.scene.sound.rates m) in
       mul-le-mul most run_at_most
 
-  module _ {found : Arrivals} (tried : TriedIs s inputs line turn m found) where
-    pub ask_least : AskLeast line.begins line.ends line.count m found.arrived run
+  module _ {starts : List (Option ℕ)} {found : Arrivals} (tried : TriedIs s inputs line turn m starts found) where
+    pub ask_least : AskLeast line.ends line.count m found.arrived run
     ask_least =
         let it = ask.inputs_ask in
         let late = tried.arrived_at_most in
@@ -65,7 +62,7 @@ module _ {s : Setup} {inputs : List Input} {line : Timeline spans_room} {turn : 
 
     module _ {start : ℕ} (least : LeastIs line.begins line.ends line.count m found.arrived run start) {own : ℕ} (rate_is : own ≡ rate s m) where
       abbrev it : Attempt
-      it = record { cost = found.cost + own * run; start = start; finish = start + run; starts = found.starts }
+      it = record { cost = found.cost + own * run; start = start; finish = start + run }
 
       start_found :
           (j : Job) (g : Ground) (new : List Row) → Scene s j g new inputs line turn →
@@ -90,7 +87,7 @@ module _ {s : Setup} {inputs : List Input} {line : Timeline spans_room} {turn : 
 
       is_trial :
           (j : Job) (g : Ground) (new : List Row) → Scene s j g new inputs line turn → Between 1 s.table.machines m →
-          run ≡ run_time j (turn.t + 1) m → IsTrial s j g new (turn.t + 1) m it
+          run ≡ run_time j (turn.t + 1) m → IsTrial s j g new (turn.t + 1) m it starts
       unfolding try
       is_trial j g new scene there run_is =
           let t = turn.t + 1 in
@@ -107,8 +104,8 @@ module _ {s : Setup} {inputs : List Input} {line : Timeline spans_room} {turn : 
             cost_is = omega arith;
             start_is = start_is;
             finish_is = ap₂ (λ a b. a + b) start_is run_is;
-            inputs_are = tried.rows_are j g new scene there ∙ ap (rows_upto s j new m (into j t) found.starts) (inputs_all scene);
+            inputs_are = tried.rows_are j g new scene there ∙ ap (rows_upto s j new m (into j t) starts) (inputs_all scene);
           }
 
-      pub attempt_is : AttemptIs s inputs line turn m run it
+      pub attempt_is : AttemptIs s inputs line turn m run it starts
       attempt_is = record { bounds = figures_fit; is = is_trial }

@@ -54,3 +54,32 @@ module _ {A : Type 0} (f : A → List ℕ) where
           (precedes (f z) (f y))
           (λ b. rw (a, b, a) refl)
           (λ b. rw (a, b, not_precedes_trans (f x) (f z) (f y) a b) refl))
+
+  pub foremost_of_none : foremost f [] ≡ none
+  unfolding foremost
+  foremost_of_none = refl
+
+  pub foremost_of_one : (x : A) → foremost f (x ∷ []) ≡ some x
+  unfolding foremost prior
+  foremost_of_one x = refl
+
+  -- of the first two the one that stays first
+  pub foremost_merged : (x y : A) (l : List A) → foremost f (x ∷ y ∷ l) ≡ foremost f (cond (precedes (f y) (f x)) y x ∷ l)
+  unfolding foremost prior
+  foremost_merged x y l = ap some (go (foremost f l))
+    where
+      go : (o : Option A) → cond (precedes (f (prior f y o)) (f x)) (prior f y o) x ≡ prior f (cond (precedes (f y) (f x)) y x) o
+      go none = refl
+      go (some z) =
+          by_test
+          (precedes (f y) (f x))
+          (λ a.
+          by_test
+          (precedes (f z) (f y))
+          (λ b. rw (b, a, b, precedes_trans (f z) (f y) (f x) b a) refl)
+          (λ b. rw (b, a, b) refl))
+          (λ a.
+          by_test
+          (precedes (f z) (f y))
+          (λ b. rw (b, a) refl)
+          (λ b. rw (b, a, not_precedes_trans (f z) (f y) (f x) b a) refl))

@@ -9,3 +9,4 @@ pub mod Listed
 pub mod Waiting
 pub mod NextTask
 pub mod Gathered
+pub mod Least

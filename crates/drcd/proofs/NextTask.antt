@@ -1,49 +1,34 @@
 -- Which task is next: task by task, the one kept is the foremost of those that are ready among the first ones.
 use mathlib.Core.Path.{◌≡◌, refl, sym, ap, ◌∙◌}
-use mathlib.Core.Bool.{Bool, true, false, and-false}
+use mathlib.Core.Bool.{Bool, true, false, not, cond, ◌&&◌}
 use mathlib.Core.List.{List, [], ◌∷◌}
 use mathlib.Core.Option.{some}
-use Prim.Native.Nat.{ℕ, ◌+◌, ◌-◌, ◌≤◌, ◌<◌}
+use Prim.Native.Nat.{ℕ, zero, suc, ◌+◌, ◌-◌, ◌≤◌, ◌<◌}
 use native.Mathlib.Omega.{arith}
 use lib.ListN.{get_or}
-use borrow.Author.Tests.{not-true, not-false}
-use Rattle.std.proofs.Common.{Option, Some, None}
+use Rattle.std.proofs.Common.{Option, None}
 use Rattle.std.specs.Prelude.{is_some}
 use Rattle.rules.specs.declared.Row.{Row}
 use Rattle.rules.specs.declared.Job.{Job}
 use Rattle.rules.specs.Sequences.{keep, numbers, precedes, foremost}
-use Rattle.rules.specs.Words.{most_tasks, task_of}
-use Rattle.rules.specs.Placing.{placed, ready, next_task}
-use Rattle.rules.proofs.Sequences.{clash}
+use Rattle.rules.specs.Words.{most_tasks, no_task, task_of}
+use Rattle.rules.specs.Placing.{placed, ready}
 use Rattle.rules.proofs.Choice.{false_precedes, lower_precedes}
 use Rattle.drcd.specs.declared.order.Spot.{Spot}
-use Rattle.drcd.specs.Given.{SomeJob, StandsFor}
-use Rattle.drcd.specs.Order.{WaitsIs, task_named, NextReadyIs}
-use Rattle.drcd.proofs.Listed.{tasks_few}
-use Rattle.drcd.proofs.Foremost.{later, foremost_more, keep_passing, keep_failing}
+use Rattle.drcd.specs.Given.{StandsFor}
+use Rattle.drcd.specs.Order.{WaitsIs, task_named}
+use Rattle.drcd.proofs.Listed.{task_at}
+use native.Mathlib.Numerals.{add-one}
+use mathlib.Core.Bool.{not-not}
+use Rattle.std.proofs.lemmas.Bool.Decides.{nat_tests}
+use Rattle.rules.proofs.Sequences.{by_test, by_less}
+use Rattle.std.specs.List.{filter, range_with_len}
+use Rattle.std.specs.Ordering.{nat_cmp, min_by_ordering}
+use Rattle.drcd.proofs.Foremost.{foremost_of_none, foremost_of_one, foremost_merged}
+use Rattle.drcd.proofs.Least.{least_by, least_of}
 
 abbrev figures : Job → ℕ → List ℕ
 figures j t = (task_of j t).deadline ∷ t ∷ []
-
--- what is known of the task kept, by its index: it is among the first so many, and its deadline is the earliest
-abbrev Keeps : Job → Option ℕ → (earliest t : ℕ) → Type 0
-Keeps j None earliest t = Unit {0}
-Keeps j (Some b) earliest t = (b < t) × (earliest ≡ (task_of j (b + 1)).deadline)
-
--- it is the foremost of those ready among the first t tasks
-pub record Best (j : Job) (spots : List (Option Spot)) (best : Option ℕ) (earliest t : ℕ) : Type 0 where
-  pub few : j.taskcount ≤ most_tasks
-  pub keeps : Keeps j best earliest t
-  pub is_best : (new : List Row) → StandsFor new spots → task_named best ≡ foremost (figures j) (keep (ready j new) (numbers 1 t))
-
-pub best_none : {j : Job} (spots : List (Option Spot)) → SomeJob j → Best j spots None 0 0
-unfolding foremost
-best_none spots asked = record { few = tasks_few asked; keeps = tt; is_best = λ new stands. refl }
-
-pub best_found :
-    {j : Job} {spots : List (Option Spot)} {best : Option ℕ} {earliest : ℕ} → Best j spots best earliest j.taskcount → NextReadyIs j spots best
-unfolding next_task
-best_found sofar = sofar.is_best
 
 -- whether the task after the first t is placed
 placed_next :
@@ -59,73 +44,92 @@ no_earlier :
     precedes (figures j (t + 1)) (figures j best) ≡ false
 no_earlier j t best h k = false_precedes _ _ _ _ k (λ e. false_precedes (t + 1) best [] [] (omega arith) (λ q. absurd (omega arith)))
 
-keeps_more : (j : Job) (best : Option ℕ) (earliest t : ℕ) → Keeps j best earliest t → Keeps j best earliest (t + 1)
-keeps_more j None earliest t keeps = tt
-keeps_more j (Some b) earliest t keeps = (omega arith, keeps.1)
+-- of two keys the lower picks, and of equal ones the first
+picks_last : (x y b t : ℕ) → y < x → min_by_ordering (nat_cmp x y) b t ≡ t
+picks_last x y b t h = grind (arith, nat_tests)
 
--- one kept before the next task stays if it is no later, and else the next is taken
-stays :
-    (j : Job) (best : Option ℕ) (earliest t : ℕ) → Keeps j best earliest t → is_some best ≡ true → earliest ≤ (task_of j (t + 1)).deadline →
-    some (later (figures j) (t + 1) (task_named best)) ≡ task_named best
-stays j None earliest t keeps found late = clash found refl
-stays j (Some b) earliest t keeps found late = rw (no_earlier j t (b + 1) (omega arith) (omega arith)) refl
+picks_first : (x y b t : ℕ) → x ≤ y → min_by_ordering (nat_cmp x y) b t ≡ b
+picks_first x y b t h = grind (arith, nat_tests)
 
-first :
-    (j : Job) (best : Option ℕ) (earliest t : ℕ) → Keeps j best earliest t → (is_some best ≡ true → (task_of j (t + 1)).deadline < earliest) →
-    later (figures j) (t + 1) (task_named best) ≡ t + 1
-first j None earliest t keeps soon = refl
-first j (Some b) earliest t keeps soon =
-    let early = soon refl in
-    let sooner : (task_of j (t + 1)).deadline < (task_of j (b + 1)).deadline = omega arith in
-    rw (lower_precedes _ _ ((t + 1) ∷ []) ((b + 1) ∷ []) sooner) refl
+-- what the code goes by at an index: a test of the task, and its deadline
+abbrev pub goes : List (Option Spot) → List Bool → ℕ → Bool
+goes spots waits t = not (is_some (get_or spots t None)) && not (get_or waits t false)
 
-module _ {j : Job} {spots : List (Option Spot)} {best : Option ℕ} {earliest t : ℕ} (sofar : Best j spots best earliest t)
-    (listed : t < j.taskcount)
-  where
-    next_is : {new : List Row} → StandsFor new spots → placed new (t + 1) ≡ is_some (get_or spots t None)
-    next_is stands = let few = sofar.few in placed_next stands t (omega arith)
+abbrev pub deadline_at : Job → ℕ → ℕ
+deadline_at j t = (get_or j.tasks t no_task).deadline
 
-    best_unready : ((new : List Row) → StandsFor new spots → ready j new (t + 1) ≡ false) → Best j spots best earliest (t + 1)
-    best_unready known = record {
-      few = sofar.few;
-      keeps = keeps_more j best earliest t sofar.keeps;
-      is_best = λ new stands. rw (keep_failing (ready j new) t (known new stands)) (sofar.is_best new stands);
-    }
+module _ (j : Job) (spots : List (Option Spot)) (waits : List Bool) where
+  -- the tasks from an index on, as the code tests them
+  abbrev pub Known : (new : List Row) (a n : ℕ) → Type 0
+  Known new a n = (t : ℕ) → a ≤ t → t < a + n → ready j new (t + 1) ≡ goes spots waits t
 
-    pub best_placed : is_some (get_or spots t None) ≡ true → Best j spots best earliest (t + 1)
-    unfolding ready
-    best_placed there = best_unready (λ new stands. rw (next_is stands, there) refl)
+  abbrev pub ready_from : (new : List Row) (a n : ℕ) → List ℕ
+  ready_from new a n = keep (ready j new) (numbers (a + 1) n)
 
-    module _ (waits : List Bool) (waiting : WaitsIs j spots waits) where
-      pub best_waits : get_or waits t false ≡ true → Best j spots best earliest (t + 1)
-      unfolding ready
-      best_waits e = best_unready (λ new stands. rw (not-true _ (sym (waiting new stands t listed) ∙ e), and-false) refl)
+  abbrev pub going_from : (a n : ℕ) → List ℕ
+  going_from a n = filter (goes spots waits) (range_with_len a n)
 
-      module _ (unplaced : is_some (get_or spots t None) ≡ false) (goes : get_or waits t false ≡ false) where
-        is_ready : (new : List Row) → StandsFor new spots → ready j new (t + 1) ≡ true
-        unfolding ready
-        is_ready new stands = rw (next_is stands, unplaced, not-false _ (sym (waiting new stands t listed) ∙ goes)) refl
+  -- the tests say which tasks are ready
+  pub all_known : {new : List Row} → StandsFor new spots → WaitsIs j spots waits → j.taskcount ≤ most_tasks → Known new 0 j.taskcount
+  unfolding ready
+  all_known {new} stands waiting few t first last =
+      let unplaced = placed_next stands t (omega arith) in
+      let known = waiting new stands t (omega arith) in
+      rw (unplaced, known, not-not) refl
 
-        with_more :
-            (new : List Row) → StandsFor new spots →
-            foremost (figures j) (keep (ready j new) (numbers 1 (t + 1))) ≡ some (later (figures j) (t + 1) (task_named best))
-        with_more new stands =
-            rw
-            (keep_passing (ready j new) t (is_ready new stands), sofar.is_best new stands)
-            (foremost_more (figures j) (keep (ready j new) (numbers 1 t)) (t + 1))
+  module _ (new : List Row) where
+    -- one task more in front
+    module _ (a n : ℕ) (known : Known new a (suc n)) where
+      later : Known new (a + 1) n
+      later t first last = known t (omega arith) (omega arith)
 
-        module _ {deadline : ℕ} (deadline_is : deadline ≡ (task_of j (t + 1)).deadline) where
-          pub best_kept : is_some best ≡ true → earliest ≤ deadline → Best j spots best earliest (t + 1)
-          best_kept found late = record {
-            few = sofar.few;
-            keeps = keeps_more j best earliest t sofar.keeps;
-            is_best = λ new stands. sym (stays j best earliest t sofar.keeps found (omega arith)) ∙ sym (with_more new stands);
-          }
+      with_first :
+          goes spots waits a ≡ true →
+          (ready_from new a (suc n) ≡ (a + 1) ∷ ready_from new (a + 1) n) × (going_from a (suc n) ≡ a ∷ going_from (a + 1) n)
+      with_first h = (rw (known a (omega arith) (omega arith) ∙ h, add-one (a + 1)) refl, rw h refl)
 
-          pub best_taken : (is_some best ≡ true → deadline < earliest) → Best j spots (Some t) deadline (t + 1)
-          best_taken soon = record {
-            few = sofar.few;
-            keeps = (omega arith, deadline_is);
-            is_best = λ new stands.
-                sym (with_more new stands ∙ ap some (first j best earliest t sofar.keeps (λ h. let early = soon h in omega arith)));
-          }
+      without_first :
+          goes spots waits a ≡ false →
+          (ready_from new a (suc n) ≡ ready_from new (a + 1) n) × (going_from a (suc n) ≡ going_from (a + 1) n)
+      without_first h = (rw (known a (omega arith) (omega arith) ∙ h, add-one (a + 1)) refl, rw h refl)
+
+    -- one that is next among the tasks so far, and those after it
+    past :
+        (b a n : ℕ) → b < a → Known new a n →
+        foremost (figures j) ((b + 1) ∷ ready_from new a n) ≡ some (least_by (deadline_at j) b (going_from a n) + 1)
+    past b a zero below known = foremost_of_one (figures j) (b + 1)
+    past b a (suc n) below known =
+        by_test
+        (goes spots waits a)
+        (λ h.
+        let with = with_first a n known h in
+        let merged
+        = ap (λ l. foremost (figures j) ((b + 1) ∷ l)) with.0 ∙ foremost_merged (figures j) (b + 1) (a + 1) (ready_from new (a + 1) n) in
+        let back = ap (λ l. some (least_by (deadline_at j) b l + 1)) (sym with.1) in
+        by_less
+        (deadline_at j a)
+        (deadline_at j b)
+        (λ lower.
+        let low : (task_of j (a + 1)).deadline < (task_of j (b + 1)).deadline = rw (task_at j a, task_at j b) lower in
+        merged
+        ∙ ap (λ x. foremost (figures j) (cond x (a + 1) (b + 1) ∷ ready_from new (a + 1) n)) (lower_precedes _ _ ((a + 1) ∷ []) ((b + 1) ∷ []) low)
+        ∙ past a (a + 1) n (omega arith) (later a n known)
+        ∙ ap (λ x. some (least_by (deadline_at j) x (going_from (a + 1) n) + 1)) (sym (picks_last _ _ b a lower))
+        ∙ back)
+        (λ higher.
+        merged
+        ∙ ap
+        (λ x. foremost (figures j) (cond x (a + 1) (b + 1) ∷ ready_from new (a + 1) n))
+        (no_earlier j a (b + 1) (omega arith) (rw (task_at j a, task_at j b) higher))
+        ∙ past b (a + 1) n (omega arith) (later a n known)
+        ∙ ap (λ x. some (least_by (deadline_at j) x (going_from (a + 1) n) + 1)) (sym (picks_first _ _ b a higher))
+        ∙ back))
+        (λ h. let without = without_first a n known h in rw (without.0, without.1) (past b (a + 1) n (omega arith) (later a n known)))
+
+    pub next_found : (a n : ℕ) → Known new a n → task_named (least_of (deadline_at j) (going_from a n)) ≡ foremost (figures j) (ready_from new a n)
+    next_found a zero known = sym (foremost_of_none (figures j))
+    next_found a (suc n) known =
+        by_test
+        (goes spots waits a)
+        (λ h. let with = with_first a n known h in rw (with.0, with.1) (sym (past a (a + 1) n (omega arith) (later a n known))))
+        (λ h. let without = without_first a n known h in rw (without.0, without.1) (next_found (a + 1) n (later a n known)))

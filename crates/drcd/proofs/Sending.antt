@@ -14,16 +14,15 @@ use Rattle.rules.specs.Placing.{spans_on, least_free}
 use Rattle.rules.specs.Bounds.{largest_rate, largest_link_time, largest_cost}
 use Rattle.rules.proofs.LeastTick.{least_at_most}
 use Rattle.timeline.specs.declared.line.Sought.{Sought}
-use Rattle.timeline.specs.declared.line.Timeline.{Timeline}
+use Rattle.timeline.specs.Spans.{Spans}
 use Rattle.timeline.specs.Timeline.{known_link, tick_room, Drawable}
 use Rattle.timeline.specs.Lines.{DrawnOn}
-use Rattle.timeline.specs.RowLine.{spans_room}
 use Rattle.timeline.specs.Beside.{AskBeside, BesideIs}
 use Rattle.timeline.specs.Grown.{Untaken, AskSpan, SpanPut}
-use Rattle.timeline.proofs.Drawing.{known_below, ends_ascend}
+use Rattle.timeline.proofs.Drawing.{in_room, known_below, ends_ascend}
 use Rattle.timeline.proofs.Grown.{untaken_least}
 use Rattle.timeline.proofs.Agreeing.{span_held}
-use Rattle.drcd.specs.declared.trial.Crossing.{Crossing}
+use Rattle.drcd.specs.declared.inputs.Input.{Input}
 use Rattle.drcd.specs.declared.trial.Sent.{Sent}
 use Rattle.drcd.specs.Trials.{reach, link_ticks, hold_sent, AskSend, SentIs}
 
@@ -32,157 +31,135 @@ untaken_last : (held tried : List Hold) (h : Hold) → Untaken (held ++ tried) h
 untaken_last held tried h free x low high taken =
     free x low high (record { hold = taken.hold; listed = Memᴰ.append_right held taken.listed; on = taken.on; within = taken.within })
 
-module _ {s : Setup} {line : Timeline spans_room} {tried : Timeline most_messages} {c : Crossing} (ask : AskSend s line tried c) where
-  its_link : HasLink c.source c.target
-  its_link =
-      let source = ask.source in
-      let target = ask.target in
-      let most = ask.sound.room in
-      record { source = record { first = source.first; last = omega arith }; target = record { first = target.first; last = omega arith } }
+module _ {s : Setup} {line : Spans} {tried : Spans} {input : Input} {m : ℕ}
+    (ask : AskSend s line tried input m)
+  where
+    its_link : HasLink input.source m
+    its_link = record { source = in_room ask.sound.room ask.source; target = in_room ask.sound.room ask.target }
 
-  -- what is found, whatever it is sought as
-  least_reach :
-      (len : ℕ) → least_free c.done len (spans_on (link c.source c.target) (ask.held ++ ask.holds_tried)) ≤ reach tried.count
-  least_reach len =
-      least_at_most
-      c.done
-      len
-      (spans_on (link c.source c.target) (ask.held ++ ask.holds_tried))
-      (reach tried.count)
-      (let done = ask.done in omega arith)
-      (λ s m.
-      let of = span_held (link c.source c.target) (ask.held ++ ask.holds_tried) m in
-      let ends = ap (λ s. s.finish) of.2 in
-      ⊎_elim
-      (λ old. let end = ask.held_end of.0 old in omega arith)
-      (λ new. let end = ask.tried_end of.0 new in omega arith)
-      (Memᴰ.append_cases ask.held of.1))
+    -- what is found, whatever it is sought as
+    least_reach :
+        (len : ℕ) → least_free input.done len (spans_on (link input.source m) (ask.held ++ ask.holds_tried)) ≤ reach tried.count
+    least_reach len =
+        least_at_most
+        input.done
+        len
+        (spans_on (link input.source m) (ask.held ++ ask.holds_tried))
+        (reach tried.count)
+        (let done = ask.done in omega arith)
+        (λ s n.
+        let of = span_held (link input.source m) (ask.held ++ ask.holds_tried) n in
+        let ends = ap (λ s. s.finish) of.2 in
+        ⊎_elim
+        (λ old. let end = ask.held_end of.0 old in omega arith)
+        (λ new. let end = ask.tried_end of.0 new in omega arith)
+        (Memᴰ.append_cases ask.held of.1))
 
-  pub ask_span : AskSpan tried.begins tried.ends tried.count
-  ask_span =
-      let few = ask.few in
-      let begins = ask.begins_long in
-      let ends = ask.ends_long in
-      record {
-        ask = record { long = ask.drawn_tried.ends_long; ascend = ends_ascend ask.drawn_tried };
-        begins_room = omega arith;
-        ends_room = omega arith;
-      }
+    pub ask_span : AskSpan most_messages tried
+    ask_span = record { ascend = ends_ascend ask.drawn_tried; fits = ask.few }
 
-  module _ {time : ℕ} (time_is : time ≡ link_time s c.source c.target) where
-    abbrev len : ℕ
-    len = time * c.volume
+    module _ {time : ℕ} (time_is : time ≡ link_time s input.source m) where
+      abbrev len : ℕ
+      len = time * input.volume
 
-    len_is : len ≡ link_ticks s c
-    len_is = ap (λ t. t * c.volume) time_is
+      len_is : len ≡ link_ticks s input m
+      len_is = ap (λ t. t * input.volume) time_is
 
-    pub takes : (1 ≤ len) × (len ≤ largest_link_time * largest_volume)
-    takes =
-        let from = ask.source in
-        let to = ask.target in
-        let some = ask.sound.takes_time c.source c.target from.first from.last to.first to.last ask.other in
-        let first : 1 ≤ link_ticks s c = one-le-mul some ask.some in
-        let last : link_ticks s c ≤ largest_link_time * largest_volume = mul-le-mul (ask.sound.times c.source c.target) ask.volume in
-        (omega (arith, len_is), omega (arith, len_is))
+      pub takes : (1 ≤ len) × (len ≤ largest_link_time * largest_volume)
+      takes =
+          let from = ask.source in
+          let to = ask.target in
+          let some = ask.sound.takes_time input.source m from.first from.last to.first to.last ask.other in
+          let first : 1 ≤ link_ticks s input m = one-le-mul some ask.some in
+          let last : link_ticks s input m ≤ largest_link_time * largest_volume = mul-le-mul (ask.sound.times input.source m) ask.volume in
+          (omega (arith, len_is), omega (arith, len_is))
 
-    pub cost_at_most : {fail : ℕ} → fail ≡ link_rate s c.source c.target → fail * len ≤ largest_cost
-    cost_at_most {fail} fail_is =
-        let most : fail ≤ largest_rate = omega (arith, ask.sound.fails c.source c.target) in
-        mul-le-mul most takes.1
+      pub cost_at_most : {fail : ℕ} → fail ≡ link_rate s input.source m → fail * len ≤ largest_cost
+      cost_at_most {fail} fail_is =
+          let most : fail ≤ largest_rate = omega (arith, ask.sound.fails input.source m) in
+          mul-le-mul most takes.1
 
-    module _ {resource : ℕ} (resource_is : resource ≡ resource_number (link c.source c.target)) where
-      abbrev sought : Sought
-      sought = record { resource = resource; from = c.done; len = len }
+      module _ {resource : ℕ} (resource_is : resource ≡ resource_number (link input.source m)) where
+        abbrev sought : Sought
+        sought = record { resource = resource; from = input.done; len = len }
 
-      pub ask_beside : AskBeside line.begins line.ends line.count tried.begins tried.ends tried.count sought
-      ask_beside =
-          let takes = takes in
-          let done = ask.done in
-          record {
-            held = ask.held;
-            drawn = ask.drawn;
-            beside = ask.holds_tried;
-            drawn_beside = ask.drawn_tried;
-            on = link c.source c.target;
-            known = known_link its_link;
-            code_is = sym resource_is;
-            from_at_most = omega arith;
-            some = takes.0;
-            len_at_most = omega arith;
-          }
-
-      module _ {start : ℕ} (found : BesideIs line.begins line.ends line.count tried.begins tried.ends tried.count sought start) where
-        found_for :
-            (held holds_tried : List Hold) → DrawnOn held line → DrawnOn holds_tried tried →
-            start ≡ least_free c.done (link_ticks s c) (spans_on (link c.source c.target) (held ++ holds_tried))
-        found_for held holds_tried drawn drawn_tried =
-            found.is held holds_tried (link c.source c.target) drawn drawn_tried (known_link its_link) (sym resource_is)
-            ∙ ap (λ l. least_free c.done l (spans_on (link c.source c.target) (held ++ holds_tried))) len_is
-
-        start_at_most : start ≤ reach tried.count
-        start_at_most =
-            let is = found_for ask.held ask.holds_tried ask.drawn ask.drawn_tried in
-            omega (arith, least_reach (link_ticks s c))
-
-        -- its place on the line, and where it ends there
-        pub place_fits : resource * tick_room + start + len < 2 ^ 64
-        place_fits =
+        pub ask_beside : AskBeside line tried sought
+        ask_beside =
             let takes = takes in
-            let few = ask.few in
-            omega (arith, start_at_most, known_below (known_link its_link))
+            let done = ask.done in
+            record {
+              held = ask.held;
+              drawn = ask.drawn;
+              beside = ask.holds_tried;
+              drawn_beside = ask.drawn_tried;
+              on = link input.source m;
+              known = known_link its_link;
+              code_is = sym resource_is;
+              from_at_most = omega arith;
+              some = takes.0;
+              len_at_most = omega arith;
+            }
 
-        module _ {fail : ℕ} (fail_is : fail ≡ link_rate s c.source c.target) where
-          abbrev sent : Sent
-          sent = record { start = start; finish = start + len; cost = fail * len }
+        module _ {start : ℕ} (found : BesideIs line tried sought start) where
+          found_for :
+              (held holds_tried : List Hold) → DrawnOn held line → DrawnOn holds_tried tried →
+              start ≡ least_free input.done (link_ticks s input m) (spans_on (link input.source m) (held ++ holds_tried))
+          found_for held holds_tried drawn drawn_tried =
+              found.is held holds_tried (link input.source m) drawn drawn_tried (known_link its_link) (sym resource_is)
+              ∙ ap (λ l. least_free input.done l (spans_on (link input.source m) (held ++ holds_tried))) len_is
 
-          sent_drawable : Drawable (hold_sent c sent)
-          sent_drawable =
+          start_at_most : start ≤ reach tried.count
+          start_at_most =
+              let is = found_for ask.held ask.holds_tried ask.drawn ask.drawn_tried in
+              omega (arith, least_reach (link_ticks s input m))
+
+          -- its place on the line, and where it ends there
+          pub place_fits : resource * tick_room + start + len < 2 ^ 64
+          place_fits =
               let takes = takes in
               let few = ask.few in
-              let at = start_at_most in
-              record { known = known_link its_link; lasts = omega arith; ends = omega arith }
+              omega (arith, start_at_most, known_below (known_link its_link))
 
-          sent_untaken : (holds_tried : List Hold) → DrawnOn holds_tried tried → Untaken holds_tried (hold_sent c sent)
-          sent_untaken holds_tried drawn =
-              untaken_last
-              ask.held
-              holds_tried
-              (hold_sent c sent)
-              (untaken_least
-              (ask.held ++ holds_tried)
-              (hold_sent c sent)
-              c.done
-              (link_ticks s c)
-              (found_for ask.held holds_tried ask.drawn drawn)
-              (ap (λ l. start + l) len_is))
+          module _ {fail : ℕ} (fail_is : fail ≡ link_rate s input.source m) where
+            abbrev sent : Sent
+            sent = record { start = start; finish = start + len; cost = fail * len }
 
-          pub sent_is :
-              {tried' : Timeline most_messages} {place : ℕ} →
-              SpanPut tried.begins tried.ends tried.count (resource * tick_room + start) (resource * tick_room + start + len) tried'.begins tried'.ends place →
-              tried'.count ≡ tried.count + 1 → SentIs s line tried c tried' sent
-          sent_is put count_is =
-              let takes = takes in
-              let at = start_at_most in
-              record {
-                count_is = count_is;
-                begins_long = put.begins_are.long;
-                ends_long = put.ends_are.long;
-                lasts = omega arith;
-                by = omega arith;
-                cost_at_most = cost_at_most fail_is;
-                finish_is = ap (λ l. start + l) len_is;
-                cost_is = cc (fail_is, len_is);
-                start_is = found_for;
-                joins =
-                    λ holds_tried drawn.
-                    rw
-                    count_is
-                    (put.is
-                    holds_tried
-                    (hold_sent c sent)
-                    drawn
-                    (omega arith)
-                    (omega arith)
-                    sent_drawable
-                    (sent_untaken holds_tried drawn));
-              }
+            sent_drawable : Drawable (hold_sent input m sent)
+            sent_drawable =
+                let takes = takes in
+                let few = ask.few in
+                let at = start_at_most in
+                record { known = known_link its_link; lasts = omega arith; ends = omega arith }
+
+            sent_untaken : (holds_tried : List Hold) → DrawnOn holds_tried tried → Untaken holds_tried (hold_sent input m sent)
+            sent_untaken holds_tried drawn =
+                untaken_last
+                ask.held
+                holds_tried
+                (hold_sent input m sent)
+                (untaken_least
+                (ask.held ++ holds_tried)
+                (hold_sent input m sent)
+                input.done
+                (link_ticks s input m)
+                (found_for ask.held holds_tried ask.drawn drawn)
+                (ap (λ l. start + l) len_is))
+
+            pub sent_is :
+                {tried' : Spans} {place : ℕ} →
+                SpanPut tried (resource * tick_room + start) (resource * tick_room + start + len) tried' place → SentIs s line tried input m tried' sent
+            sent_is put =
+                let takes = takes in
+                let at = start_at_most in
+                record {
+                  count_is = put.count_is;
+                  lasts = omega arith;
+                  by = omega arith;
+                  cost_at_most = cost_at_most fail_is;
+                  finish_is = ap (λ l. start + l) len_is;
+                  cost_is = cc (fail_is, len_is);
+                  start_is = found_for;
+                  joins =
+                      λ holds_tried drawn.
+                      put.is holds_tried (hold_sent input m sent) drawn (omega arith) (omega arith) sent_drawable (sent_untaken holds_tried drawn);
+                }

@@ -9,6 +9,7 @@ use native.Mathlib.Omega.{arith}
 use native.Mathlib.Numerals.{add-one}
 use lib.Dec.{eqb}
 use lib.ListN.{length, get_or, take, drop, set, length-set, length-map, take-append-drop}
+use Rattle.std.proofs.Common.{Option, Some, None}
 use Rattle.std.proofs.lemmas.List.{get_or-map}
 use lib.Seq.{take-suc, get_or-set_same, get_or-set_other}
 use borrow.Author.Tests.{eq-eqb, ne_eqb, lt-ltb, le-ltb}
@@ -16,7 +17,7 @@ use Rattle.rules.specs.declared.Row.{Row}
 use Rattle.rules.specs.declared.Message.{Message}
 use Rattle.rules.specs.declared.Job.{Job}
 use Rattle.rules.specs.declared.Setup.{Setup}
-use Rattle.rules.specs.Words.{link, held_by, Hold, holds, messages_of, horizon, most_messages, largest_volume}
+use Rattle.rules.specs.Words.{link, held_by, Hold, holds, messages_of, horizon, most_messages, largest_volume, no_message}
 use Rattle.rules.specs.Placing.{Ground, least_free, spans_on, transfer, message_booking, task_row, machine_for, crosses, into, release}
 use Rattle.rules.specs.Placing.{message_trials, all_arrived}
 use Rattle.rules.specs.Bounds.{Between, largest_cost}
@@ -26,16 +27,14 @@ use Rattle.rules.proofs.Inputs.{Differ}
 use Rattle.rules.proofs.Order.{in_range_volume}
 use Rattle.rules.proofs.Differ.{in_range_differ}
 use Rattle.rules.proofs.Resources.{holds_append}
-use Rattle.timeline.specs.declared.line.Timeline.{Timeline}
+use Rattle.timeline.specs.Spans.{Spans}
 use Rattle.timeline.specs.Lines.{DrawnOn, none_on}
-use Rattle.timeline.specs.RowLine.{spans_room}
 use Rattle.drcd.specs.declared.TaskTurn.{TaskTurn}
 use Rattle.drcd.specs.declared.inputs.Input.{Input}
-use Rattle.drcd.specs.declared.trial.Crossing.{Crossing}
 use Rattle.drcd.specs.declared.trial.Sent.{Sent}
 use Rattle.drcd.specs.Given.{SomeJob}
 use Rattle.drcd.specs.Inputs.{input_of}
-use Rattle.drcd.specs.Trials.{reach, hold_sent, AskSend, SentIs, Scene, AskInputs, no_message, rows_upto}
+use Rattle.drcd.specs.Trials.{reach, hold_sent, AskSend, SentIs, Scene, AskInputs, rows_booked, rows_upto}
 use Rattle.drcd.proofs.Listed.{messages_listed}
 use Rattle.drcd.proofs.Trying.{Tried, tried_without, tried_with}
 
@@ -56,49 +55,45 @@ crosses_does msg a b apart some = rw (ne_eqb a b apart, lt-ltb 0 msg.volume some
 module _ (s : Setup) (j : Job) (new : List Row) (m : ℕ) (msgs : List Message) where
   -- they go by the starts of the first alone
   rows_same :
-      (starts starts' : List ℕ) (i : ℕ) → ((k : ℕ) → k < i → get_or starts' k 0 ≡ get_or starts k 0) →
+      (starts starts' : List (Option ℕ)) (i : ℕ) → ((k : ℕ) → k < i → get_or starts' k None ≡ get_or starts k None) →
       rows_upto s j new m msgs starts' i ≡ rows_upto s j new m msgs starts i
   unfolding rows_upto
   rows_same starts starts' zero same = refl
   rows_same starts starts' (suc i) same =
       rw (same i (omega arith), rows_same starts starts' i (λ k h. same k (omega arith))) refl
 
-  rows_without :
-      (starts : List ℕ) (i : ℕ) → crosses (get_or msgs i no_message) (machine_for new (get_or msgs i no_message).sender) m ≡ false →
-      rows_upto s j new m msgs starts (suc i) ≡ rows_upto s j new m msgs starts i
-  unfolding rows_upto
-  rows_without starts i c = rw c (append-nil (rows_upto s j new m msgs starts i))
-
-  rows_with :
-      (starts : List ℕ) (i start : ℕ) → i < length starts →
-      crosses (get_or msgs i no_message) (machine_for new (get_or msgs i no_message).sender) m ≡ true →
+  -- one message more, with its start or none
+  rows_more :
+      (starts : List (Option ℕ)) (i : ℕ) (start : Option ℕ) → i < length starts →
       rows_upto s j new m msgs (set starts i start) (suc i)
       ≡ rows_upto s j new m msgs starts i
-      ++ (message_booking s j (get_or msgs i no_message) (machine_for new (get_or msgs i no_message).sender) m start ∷ [])
+      ++ rows_booked s j (get_or msgs i no_message) (machine_for new (get_or msgs i no_message).sender) m start
   unfolding rows_upto
-  rows_with starts i start below c =
+  rows_more starts i start below =
       rw (
-        c,
-        get_or-set_same starts i start 0 below,
-        rows_same starts (set starts i start) i (λ k h. get_or-set_other starts i k start 0 (omega arith)),
+        get_or-set_same starts i start None below,
+        rows_same starts (set starts i start) i (λ k h. get_or-set_other starts i k start None (omega arith)),
       )
       refl
 
+  rows_without :
+      (starts : List (Option ℕ)) (i : ℕ) → i < length starts →
+      rows_upto s j new m msgs (set starts i None) (suc i) ≡ rows_upto s j new m msgs starts i
+  rows_without starts i below = rows_more starts i None below ∙ append-nil (rows_upto s j new m msgs starts i)
+
 -- what the rules say of the messages passed, and how the rows of those that cross stand on the line
-pub record Follows (s : Setup) (j : Job) (g : Ground) (new : List Row) (t m : ℕ) (tried : Timeline most_messages) (starts : List ℕ) (arrived cost i : ℕ)
+pub record Follows (s : Setup) (j : Job) (g : Ground) (new : List Row) (t m : ℕ) (tried : Spans) (starts : List (Option ℕ)) (arrived cost i : ℕ)
     : Type 0 where
   pub so_far : Tried s j m (release g j new t) g.held new (take i (into j t)) (rows_upto s j new m (into j t) starts i) arrived cost
   pub drawn : DrawnOn (holds (rows_upto s j new m (into j t) starts i)) tried
   pub ends : (h : Hold) → Memᴰ h (holds (rows_upto s j new m (into j t) starts i)) → h.span.finish ≤ reach tried.count
 
 pub record TriedSo
-    (s : Setup) (inputs : List Input) (line : Timeline spans_room) (turn : TaskTurn) (m : ℕ)
-    (tried : Timeline most_messages) (starts : List ℕ) (arrived cost i : ℕ)
+    (s : Setup) (inputs : List Input) (line : Spans) (turn : TaskTurn) (m : ℕ)
+    (tried : Spans) (starts : List (Option ℕ)) (arrived cost i : ℕ)
     : Type 0 where
   pub within : i ≤ length inputs
   pub count_at_most : tried.count ≤ i
-  pub begins_long : length tried.begins ≡ most_messages
-  pub ends_long : length tried.ends ≡ most_messages
   pub starts_long : length starts ≡ most_messages
   pub arrived_at_most : arrived ≤ reach tried.count
   pub cost_at_most : cost ≤ tried.count * largest_cost
@@ -108,7 +103,7 @@ pub record TriedSo
 
 -- as many inputs as messages into the task
 pub inputs_all :
-    {s : Setup} {j : Job} {g : Ground} {new : List Row} {inputs : List Input} {line : Timeline spans_room} {turn : TaskTurn} →
+    {s : Setup} {j : Job} {g : Ground} {new : List Row} {inputs : List Input} {line : Spans} {turn : TaskTurn} →
     Scene s j g new inputs line turn → length inputs ≡ length (into j (turn.t + 1))
 inputs_all {j = j} {new = new} {turn = turn} scene = ap length scene.inputs_are ∙ length-map (into j (turn.t + 1)) (input_of new)
 
@@ -116,13 +111,9 @@ inputs_all {j = j} {new = new} {turn = turn} scene = ap length scene.inputs_are 
 abbrev pub no_input : Input
 no_input = record { sender = 0; source = 0; done = 0; volume = 0 }
 
--- a message as it is sent
-abbrev pub crossing_of : Input → ℕ → Crossing
-crossing_of input m = record { source = input.source; target = m; done = input.done; volume = input.volume }
-
 -- The message at an index.
 module _
-    {s : Setup} {j : Job} {g : Ground} {new : List Row} {inputs : List Input} {line : Timeline spans_room} {turn : TaskTurn}
+    {s : Setup} {j : Job} {g : Ground} {new : List Row} {inputs : List Input} {line : Spans} {turn : TaskTurn}
     (scene : Scene s j g new inputs line turn) (i : ℕ) (more : i < length inputs)
   where
     abbrev msgs : List Message
@@ -161,7 +152,7 @@ module _
     pub is_of : get_or inputs i no_input ≡ input_of new msg
     is_of = ap (λ l. get_or l i no_input) scene.inputs_are ∙ get_or-map (input_of new) msgs i no_message no_input listed
 
-    module _ {m : ℕ} {tried : Timeline most_messages} {starts : List ℕ} {arrived cost : ℕ}
+    module _ {m : ℕ} {tried : Spans} {starts : List (Option ℕ)} {arrived cost : ℕ}
         (follows : Follows s j g new (turn.t + 1) m tried starts arrived cost i) where
       abbrev rows : List Row
       rows = rows_upto s j new m msgs starts i
@@ -173,12 +164,12 @@ module _
       done = (task_row new msg.sender).finish
 
       follows_without :
-          crosses msg a m ≡ false →
-          Follows s j g new (turn.t + 1) m tried starts (max arrived done) cost (suc i)
-      follows_without c = record {
+          crosses msg a m ≡ false → i < length starts →
+          Follows s j g new (turn.t + 1) m tried (set starts i None) (max arrived done) cost (suc i)
+      follows_without c below = record {
         so_far =
             rw
-            (first_more, rows_without s j new m msgs starts i c)
+            (first_more, rows_without s j new m msgs starts i below)
             (tried_without
             s
             j
@@ -196,13 +187,13 @@ module _
             cost
             follows.so_far
             c);
-        drawn = rw (rows_without s j new m msgs starts i c) follows.drawn;
-        ends = rw (rows_without s j new m msgs starts i c) follows.ends;
+        drawn = rw (rows_without s j new m msgs starts i below) follows.drawn;
+        ends = rw (rows_without s j new m msgs starts i below) follows.ends;
       }
 
       module _
-          (c : crosses msg a m ≡ true) (below : i < length starts) {tried' : Timeline most_messages} {r : Sent}
-          (sent : SentIs s line tried (crossing_of (input_of new msg) m) tried' r)
+          (c : crosses msg a m ≡ true) (below : i < length starts) {tried' : Spans} {r : Sent}
+          (sent : SentIs s line tried (input_of new msg) m tried' r)
         where
           abbrev row : Row
           row = message_booking s j msg a m r.start
@@ -216,7 +207,7 @@ module _
               (sent.start_is (g.held ++ holds new) (holds rows) scene.drawn follows.drawn
               ∙ ap (λ l. least_free done (transfer s msg a m) (spans_on (link a m) l)) same)
 
-          holds_more : holds (rows ++ (row ∷ [])) ≡ holds rows ++ (hold_sent (crossing_of (input_of new msg) m) r ∷ [])
+          holds_more : holds (rows ++ (row ∷ [])) ≡ holds rows ++ (hold_sent (input_of new msg) m r ∷ [])
           unfolding held_by
           holds_more =
               holds_append rows (row ∷ [])
@@ -231,14 +222,14 @@ module _
               (turn.t + 1)
               m
               tried'
-              (set starts i r.start)
+              (set starts i (Some r.start))
               (max arrived r.finish)
               (cost + r.cost)
               (suc i)
           follows_with = record {
             so_far =
                 rw
-                (first_more, rows_with s j new m msgs starts i r.start below c, sent.finish_is, sent.cost_is)
+                (first_more, rows_more s j new m msgs starts i (Some r.start) below, sent.finish_is, sent.cost_is)
                 (tried_with
                 s
                 j
@@ -258,10 +249,10 @@ module _
                 c
                 row
                 row_is);
-            drawn = rw (rows_with s j new m msgs starts i r.start below c, holds_more) (sent.joins (holds rows) follows.drawn);
+            drawn = rw (rows_more s j new m msgs starts i (Some r.start) below, holds_more) (sent.joins (holds rows) follows.drawn);
             ends =
                 rw
-                (rows_with s j new m msgs starts i r.start below c, holds_more)
+                (rows_more s j new m msgs starts i (Some r.start) below, holds_more)
                 (λ h n.
                 ⊎_elim
                 (λ old. let end = follows.ends h old in let count = sent.count_is in omega arith)
@@ -281,17 +272,15 @@ drawn_none room = record {
 }
 
 -- The turns.
-module _ {s : Setup} {inputs : List Input} {line : Timeline spans_room} {turn : TaskTurn} {m : ℕ} (ask : AskInputs s inputs line turn m) where
-  abbrev Now : (tried : Timeline most_messages) (starts : List ℕ) (arrived cost i : ℕ) → Type 0
+module _ {s : Setup} {inputs : List Input} {line : Spans} {turn : TaskTurn} {m : ℕ} (ask : AskInputs s inputs line turn m) where
+  abbrev Now : (tried : Spans) (starts : List (Option ℕ)) (arrived cost i : ℕ) → Type 0
   Now = TriedSo s inputs line turn m
 
-  pub tried_none : {starts : List ℕ} → length starts ≡ most_messages → Now (none_on most_messages) starts turn.release 0 0
+  pub tried_none : {starts : List (Option ℕ)} → length starts ≡ most_messages → Now (none_on most_messages) starts turn.release 0 0
   unfolding message_trials all_arrived rows_upto
   tried_none long = record {
     within = omega arith;
     count_at_most = omega arith;
-    begins_long = refl;
-    ends_long = refl;
     starts_long = long;
     arrived_at_most = ask.scene.release_at_most;
     cost_at_most = omega arith;
@@ -308,10 +297,10 @@ module _ {s : Setup} {inputs : List Input} {line : Timeline spans_room} {turn : 
   inputs_few =
       let some : SomeJob ask.job = record { setup = s; range = ask.scene.range } in
       let kept = length_keep (λ msg. eqb msg.receiver (turn.t + 1)) (messages_of ask.job) in
-      omega (arith, inputs_all ask.scene, messages_listed some)
+      omega (arith, inputs_all ask.scene, messages_listed some refl)
 
   module _
-      {tried : Timeline most_messages} {starts : List ℕ} {arrived cost i : ℕ}
+      {tried : Spans} {starts : List (Option ℕ)} {arrived cost i : ℕ}
       (now : Now tried starts arrived cost i) (more : i < length inputs)
       {input : Input} (input_is : input ≡ get_or inputs i no_input)
     where
@@ -324,7 +313,7 @@ module _ {s : Setup} {inputs : List Input} {line : Timeline spans_room} {turn : 
           let by = scene.senders_done (msg scene i more) (incoming scene i more) in
           omega (arith, ap (λ x. x.done) (its scene))
 
-      pub tried_off : (input.source ≡ m) ⊎ (input.volume ≡ 0) → {later : ℕ} → later ≡ max arrived input.done → Now tried starts later cost (i + 1)
+      pub tried_off : (input.source ≡ m) ⊎ (input.volume ≡ 0) → {later : ℕ} → later ≡ max arrived input.done → Now tried (set starts i None) later cost (i + 1)
       tried_off off {later} later_is =
           let few = now.count_at_most in
           let late = now.arrived_at_most in
@@ -332,9 +321,7 @@ module _ {s : Setup} {inputs : List Input} {line : Timeline spans_room} {turn : 
           record {
             within = omega arith;
             count_at_most = omega arith;
-            begins_long = now.begins_long;
-            ends_long = now.ends_long;
-            starts_long = now.starts_long;
+            starts_long = length-set starts i None ∙ now.starts_long;
             arrived_at_most = omega arith;
             cost_at_most = now.cost_at_most;
             follows =
@@ -343,11 +330,12 @@ module _ {s : Setup} {inputs : List Input} {line : Timeline spans_room} {turn : 
                 let off_there = ⊎_elim (λ e. inl (sym (ap (λ x. x.source) is) ∙ e)) (λ e. inr (sym (ap (λ x. x.volume) is) ∙ e)) off in
                 rw
                 (add-one i, later_is, ap (λ x. x.done) is)
-                (follows_without scene i more (now.follows j g new scene there) (crosses_not (msg scene i more) _ m off_there));
+                (follows_without scene i more (now.follows j g new scene there) (crosses_not (msg scene i more) _ m off_there)
+                (omega (arith, now.starts_long, inputs_few)));
           }
 
       module _ (apart : input.source ≡ m → ⊥) (volumed : 1 ≤ input.volume) where
-        pub ask_send : AskSend s line tried (crossing_of input m)
+        pub ask_send : AskSend s line tried input m
         ask_send =
             let scene = ask.scene in
             let is = its scene in
@@ -360,8 +348,6 @@ module _ {s : Setup} {inputs : List Input} {line : Timeline spans_room} {turn : 
               drawn = scene.drawn;
               drawn_tried = follows.drawn;
               few = omega (arith, inputs_few);
-              begins_long = now.begins_long;
-              ends_long = now.ends_long;
               held_end = scene.held_end;
               tried_end = follows.ends;
               source = rw (ap (λ x. x.source) is) (scene.senders_on (msg scene i more) (incoming scene i more));
@@ -373,8 +359,8 @@ module _ {s : Setup} {inputs : List Input} {line : Timeline spans_room} {turn : 
             }
 
         pub tried_across :
-            {tried' : Timeline most_messages} {r : Sent} → SentIs s line tried (crossing_of input m) tried' r →
-            {later : ℕ} → later ≡ max arrived r.finish → Now tried' (set starts i r.start) later (cost + r.cost) (i + 1)
+            {tried' : Spans} {r : Sent} → SentIs s line tried input m tried' r →
+            {later : ℕ} → later ≡ max arrived r.finish → Now tried' (set starts i (Some r.start)) later (cost + r.cost) (i + 1)
         tried_across {r = r} sent {later} later_is =
             let few = now.count_at_most in
             let late = now.arrived_at_most in
@@ -385,9 +371,7 @@ module _ {s : Setup} {inputs : List Input} {line : Timeline spans_room} {turn : 
             record {
               within = omega arith;
               count_at_most = omega arith;
-              begins_long = sent.begins_long ∙ now.begins_long;
-              ends_long = sent.ends_long ∙ now.ends_long;
-              starts_long = length-set starts i r.start ∙ now.starts_long;
+              starts_long = length-set starts i (Some r.start) ∙ now.starts_long;
               arrived_at_most = omega arith;
               cost_at_most = omega arith;
               follows =

@@ -15,14 +15,11 @@ use Rattle.rules.specs.declared.Message.{Message}
 use Rattle.rules.specs.Sequences.{all_of, keep}
 use Rattle.rules.specs.Words.{most_tasks}
 use Rattle.rules.specs.Placing.{placed}
+use Rattle.std.proofs.lemmas.List.Folds.{list_all-append}
 use Rattle.rules.proofs.Sequences.{by_test, keep_append}
 use Rattle.drcd.specs.declared.order.Spot.{Spot}
 use Rattle.drcd.specs.Given.{StandsFor, spot_of}
 use Rattle.drcd.proofs.Listed.{EndsWithin}
-
-all_append : {A : Type 0} (p : A → Bool) (a b : List A) → all_of p (a ++ b) ≡ all_of p a && all_of p b
-all_append p [] b = refl
-all_append p (x ∷ a) b = by_test (p x) (λ h. rw h (all_append p a b)) (λ h. rw h refl)
 
 -- of these messages, those into the task come from tasks that are placed
 abbrev pub all_placed : List Row → ℕ → List Message → Bool
@@ -31,7 +28,10 @@ all_placed new t msgs = all_of (λ msg. placed new msg.sender) (keep (λ msg. eq
 placed_push :
     (new : List Row) (t : ℕ) (msgs : List Message) (msg : Message) →
     all_placed new t (msgs ++ (msg ∷ [])) ≡ all_placed new t msgs && all_placed new t (msg ∷ [])
-placed_push new t msgs msg = rw (keep_append, all_append) refl
+placed_push new t msgs msg =
+    rw
+    keep_append
+    (list_all-append (λ msg. placed new msg.sender) (keep (λ msg. eqb msg.receiver t) msgs) (keep (λ msg. eqb msg.receiver t) (msg ∷ [])))
 
 -- which tasks wait by some messages
 pub record Waited (spots : List (Option Spot)) (msgs : List Message) (waits : List Bool) : Type 0 where

@@ -1,11 +1,9 @@
 // The choice among the machines: the good trial of lowest cost, then of earliest start, then of lowest machine.
-ghost use Rattle.std.specs.Prelude.{◌≡◌, ◌||◌, ◌&&◌, ltb, eqb};
 ghost use Rattle.drcd.specs.Choice.{AskChoose, ChoiceIs};
 
 use crate::inputs::Inputs;
-use crate::trial::attempt;
-use crate::{Attempt, TaskTurn};
-use rules::{Job, Setup};
+use crate::{Attempt, Scene, Starts, TaskTurn};
+use rules::{Job, MESSAGES, Setup};
 use timeline::SPANS;
 use timeline::line::Timeline;
 
@@ -16,40 +14,44 @@ pub struct Kept {
     pub best: Attempt,
 }
 
-// Machines are tried in ascending order, so at equal cost and start the one kept stays.
-fn comes_first(tried: &Attempt, kept: &Attempt) -> bool
-    ensures { result ≡ (ltb tried.now.cost kept.now.cost || (eqb tried.now.cost kept.now.cost && ltb tried.now.start kept.now.start)) }
-{
-    tried.cost < kept.cost || (tried.cost == kept.cost && tried.start < kept.start)
-}
-
+// The trial that is kept in a turn, if any machine finishes the task in time; the starts of its messages go to `starts`.
 pub fn choose(
     setup: &Setup,
     job: &Job,
     inputs: &Inputs,
     line: &Timeline<SPANS>,
     turn: TaskTurn,
+    starts: &mut Starts,
 ) -> Option<Kept>
     requires { AskChoose setup.now job.now inputs.now.items line.now turn }
-    ensures { ChoiceIs setup.now job.now inputs.now.items line.now turn result }
+    ensures { ChoiceIs setup.now job.now inputs.now.items line.now turn result starts.new }
 {
+    let scene = Scene {
+        setup,
+        inputs,
+        line,
+        turn,
+    };
     let task = &job.tasks[turn.t];
+    let machines = setup.table.machines as usize;
     let mut kept: Option<Kept> = None;
-    for machine in 1..=setup.table.machines {
-        let run = task.runs[machine as usize - 1];
+    let mut tried = [None; MESSAGES];
+    for (machine, &run) in (1..).zip(&task.runs[..machines]) {
         if run == 0 {
             continue;
         }
-        let best = attempt(setup, inputs, line, turn, machine, run);
+        let best = scene.attempt(machine, run, &mut tried);
         if task.deadline < best.finish {
             continue;
         }
-        if let Some(other) = &kept
-            && !comes_first(&best, &other.best)
+        // Machines are tried in ascending order, so at equal cost and start the one kept stays.
+        if let Some(Kept { best: other, .. }) = &kept
+            && (other.cost, other.start) <= (best.cost, best.start)
         {
             continue;
         }
         kept = Some(Kept { machine, best });
+        *starts = tried;
     }
     kept
 }

@@ -16,13 +16,14 @@ pub struct Input {
 
 pub type Inputs = ArrayVec<Input, MESSAGES>;
 
-// Gathers the messages into the task at an index, in their order. At its turn all their senders are placed.
-pub fn gather(job: &Job, t: usize, spots: &Spots) -> Inputs
+// Gathers the messages into the task at an index, in their order. At its turn all their senders are placed. The vector is lent: made here it would be set to
+// zeros at each turn.
+pub fn gather(job: &Job, t: usize, spots: &Spots, inputs: &mut Inputs)
     requires { AskGather job.now t spots.now }
-    ensures { GatheredIs job.now t spots.now result.items }
+    ensures { GatheredIs job.now t spots.now inputs.new.items }
 {
-    let mut inputs = ArrayVec::new();
-    for message in &job.messages[..job.messagecount as usize] {
+    inputs.clear();
+    for message in job.messages() {
         if message.receiver != t as u64 + 1 {
             continue;
         }
@@ -36,5 +37,4 @@ pub fn gather(job: &Job, t: usize, spots: &Spots) -> Inputs
             volume: message.volume,
         });
     }
-    inputs
 }

@@ -20,7 +20,7 @@ fn waiting(job: &Job, spots: &Spots) -> [bool; TASKS]
     ensures { WaitsIs job.now spots.now result }
 {
     let mut waits = [false; TASKS];
-    for message in &job.messages[..job.messagecount as usize] {
+    for message in job.messages() {
         if spots[message.sender as usize - 1].is_none() {
             waits[message.receiver as usize - 1] = true;
         }
@@ -34,17 +34,7 @@ pub fn next_ready(job: &Job, spots: &Spots) -> Option<usize>
     ensures { NextReadyIs job.now spots.now result }
 {
     let waits = waiting(job, spots);
-    let mut best = None;
-    let mut earliest = 0;
-    for t in 0..job.taskcount as usize {
-        if spots[t].is_some() || waits[t] {
-            continue;
-        }
-        let deadline = job.tasks[t].deadline;
-        if best.is_none() || deadline < earliest {
-            best = Some(t);
-            earliest = deadline;
-        }
-    }
-    best
+    (0..job.taskcount as usize)
+        .filter(|t| spots[*t].is_none() && !waits[*t])
+        .min_by_key(|t| job.tasks[*t].deadline)
 }

@@ -1,25 +1,23 @@
 -- The rows of the trial that is kept, behind those of a job, row by row: the timeline with those so far, and their entries.
 use mathlib.Core.Path.{◌≡◌, refl, sym, ap, ◌∙◌, subst}
 use mathlib.Core.Logic.{⊎_elim}
-use mathlib.Core.Bool.{Bool, true, false, not, ◌&&◌}
+use mathlib.Core.Bool.{true}
 use mathlib.Core.List.{List, [], ◌∷◌, ◌++◌, append-nil, append_assoc}
 use mathlib.Core.List.Memᴰ
 use mathlib.Core.List.{Memᴰ}
 use Prim.Native.Nat.{ℕ, zero, suc, ◌+◌, ◌-◌, ◌≤◌, ◌<◌}
 use native.Mathlib.Omega.{arith}
-use lib.Dec.{eqb, ltb}
+use lib.Dec.{eqb}
 use lib.ListN.{length, get_or, length-append, length-map}
-use borrow.Author.Tests.{eqb-true, eq-eqb, ne_eqb, lt-ltb}
+use borrow.Author.Tests.{eqb-true}
 use Rattle.std.proofs.lemmas.List.{get_or-map}
-use Rattle.rules.specs.declared.Holder.{Holder}
 use Rattle.rules.specs.declared.Row.{Row}
 use Rattle.rules.specs.declared.Message.{Message}
 use Rattle.rules.specs.declared.Job.{Job}
 use Rattle.rules.specs.declared.Setup.{Setup}
-use Rattle.rules.specs.Words.{held_by, hold_of, holds, most_tasks, messages_of, run_time}
-use Rattle.rules.specs.Placing.{on_rows, task_booking, message_booking, machine_for, into, crosses, trial_rows, try}
-use Rattle.rules.specs.Asked.{HasMachine}
-use Rattle.rules.specs.Bounds.{Sound, Between, Listed, task, message, RowInRange}
+use Rattle.rules.specs.Words.{hold_of, holds, most_tasks, messages_of, no_message, run_time}
+use Rattle.rules.specs.Placing.{on_rows, task_booking, message_booking, machine_for, into, trial_rows, try}
+use Rattle.rules.specs.Bounds.{RowInRange}
 use Rattle.rules.proofs.Sequences.{by_less, get_or_mem, mem_keep, mem_map}
 use Rattle.rules.proofs.Pairs.{pairwise_front, pairwise_across}
 use Rattle.rules.proofs.Resources.{holds_append}
@@ -27,39 +25,28 @@ use Rattle.rules.proofs.Apart.{Apart, AllApart, shares_none_apart, apart_shares_
 use Rattle.rules.proofs.Inputs.{try_shape}
 use Rattle.rules.proofs.Order.{in_range_ends, in_range_volume}
 use Rattle.rules.proofs.Bounds.{listed_in_range, task_figures}
-use Rattle.timeline.specs.Timeline.{Known, known_machine, known_link, Drawable}
+use Rattle.std.proofs.Common.{Option, Some, None}
+use Rattle.timeline.proofs.Drawing.{in_range_drawable}
+use Rattle.timeline.specs.Timeline.{Drawable}
 use Rattle.timeline.specs.Lines.{LineOf}
-use Rattle.timeline.specs.RowLine.{most_own, spans_room}
-use Rattle.timeline.specs.declared.line.Timeline.{Timeline}
+use Rattle.timeline.specs.RowLine.{most_own}
+use Rattle.timeline.specs.Spans.{Spans}
 use Rattle.timeline.specs.Grown.{Untaken}
+use Rattle.timeline.specs.Bookings.{booking_of}
+use Rattle.timeline.specs.declared.bookings.Booking.{Booking}
 use Rattle.drcd.specs.declared.TaskTurn.{TaskTurn}
 use Rattle.drcd.specs.declared.inputs.Input.{Input}
 use Rattle.drcd.specs.declared.choice.Kept.{Kept}
 use Rattle.placement.specs.declared.own.Entry.{Entry}
 use Rattle.drcd.specs.Inputs.{input_of}
-use Rattle.drcd.specs.Trials.{no_message, message_row_at, rows_upto}
-use Rattle.placement.specs.Own.{entry_for, OwnRows}
-use Rattle.placement.specs.Bookings.{AskTaskEntry, TaskEntryIs, AskMessageEntry, MessageEntryIs}
+use Rattle.drcd.specs.Trials.{message_row_at, rows_upto}
+use Rattle.placement.specs.Own.{OwnRows}
+use Rattle.placement.specs.Bookings.{AskTaskBooking, TaskBookingIs, AskMessageBooking, MessageBookingIs}
 use Rattle.placement.specs.Appending.{Pushable, AskPush, Pushed, Keeping, AskAppend, AppendedIs}
-
--- A row in range can be drawn.
-
-in_room : {s : Setup} {m : ℕ} → Sound s → Between 1 s.table.machines m → HasMachine m
-in_room sound there = record { first = there.first; last = omega (arith, sound.room, there.last) }
-
-listed_known : {s : Setup} {h : Holder} → Sound s → Listed s h → Known (held_by h)
-unfolding held_by
-listed_known sound (task m t) = known_machine (in_room sound m)
-listed_known sound (message a b x y links tasks) = known_link (record { source = in_room sound a; target = in_room sound b })
-
-pub in_range_drawable : {s : Setup} {row : Row} → Sound s → RowInRange s row → Drawable (hold_of row)
-in_range_drawable sound range =
-    let ends = range.ends in
-    record { known = listed_known sound range.holder; lasts = range.lasts; ends = omega arith }
 
 -- The rows of a trial: those of the first messages, the row of the next, and the rest.
 
-module _ (s : Setup) (j : Job) (new : List Row) (m : ℕ) (msgs : List Message) (starts : List ℕ) where
+module _ (s : Setup) (j : Job) (new : List Row) (m : ℕ) (msgs : List Message) (starts : List (Option ℕ)) where
   upto_more : (i n : ℕ) → i ≤ n → (rest : List Row) × (rows_upto s j new m msgs starts n ≡ rows_upto s j new m msgs starts i ++ rest)
   unfolding rows_upto
   upto_more i zero h = let same : i ≡ 0 = omega arith in ([], rw same refl)
@@ -79,31 +66,18 @@ pub record Next (all done : List Row) (row : Row) : Type 0 where
   pub rest : List Row
   pub splits : all ≡ done ++ (row ∷ rest)
 
--- a message takes a row, by its figures
-abbrev goes : Input → (m : ℕ) → Bool
-goes input m = not (eqb input.source m) && ltb 0 input.volume
-
-goes_on : (input : Input) (m : ℕ) → (input.source ≡ m → ⊥) → (input.volume ≡ 0 → ⊥) → goes input m ≡ true
-goes_on input m apart some = rw (ne_eqb input.source m apart, lt-ltb 0 input.volume (omega (arith, some))) refl
-
-stays_there : (input : Input) (m : ℕ) → input.source ≡ m → goes input m ≡ false
-stays_there input m same = rw (eq-eqb input.source m same) refl
-
-stays_light : (input : Input) (m : ℕ) → (input.source ≡ m → ⊥) → input.volume ≡ 0 → goes input m ≡ false
-stays_light input m apart none = rw (ne_eqb input.source m apart, none) refl
-
 -- the input at an index
 abbrev pub nth_input : List Input → ℕ → Input
 nth_input inputs i = get_or inputs i (record { sender = 0; source = 0; done = 0; volume = 0 })
 
 -- with some of a trial's rows appended
-pub record Behind (rows new done : List Row) (line : Timeline spans_room) (own : List Entry) : Type 0 where
+pub record Behind (rows new done : List Row) (line : Spans) (own : List Entry) : Type 0 where
   pub line_is : LineOf (rows ++ (new ++ done)) line
   pub own_is : OwnRows rows (new ++ done) own
 
 module _
-    {s : Setup} {j : Job} {base : ℕ} {rows new : List Row} {kept : Kept} {inputs : List Input} {turn : TaskTurn} {line₀ : Timeline spans_room} {own₀ : List Entry}
-    (k : Keeping s j base rows new kept inputs turn line₀ own₀) where
+    {s : Setup} {j : Job} {base : ℕ} {rows new : List Row} {kept : Kept} {starts : List (Option ℕ)} {inputs : List Input} {turn : TaskTurn} {line₀ : Spans} {own₀ : List Entry}
+    (k : Keeping s j base rows new kept starts inputs turn line₀ own₀) where
   -- the trial's rows: those of its messages, and the task's own
   abbrev all_rows : List Row
   all_rows = trial_rows (try s (on_rows base rows) j new (turn.t + 1) kept.machine)
@@ -113,14 +87,14 @@ module _
 
   -- those of its first so many messages
   abbrev pub first_rows : ℕ → List Row
-  first_rows i = rows_upto s j new kept.machine (into j (turn.t + 1)) kept.best.starts i
+  first_rows i = rows_upto s j new kept.machine (into j (turn.t + 1)) starts i
 
   -- a message, and its row
   abbrev message_at : ℕ → Message
   message_at i = get_or (into j (turn.t + 1)) i no_message
 
-  abbrev booking_at : ℕ → Row
-  booking_at i = message_booking s j (message_at i) (machine_for new (message_at i).sender) kept.machine (get_or kept.best.starts i 0)
+  abbrev booking_at : (i start : ℕ) → Row
+  booking_at i start = message_booking s j (message_at i) (machine_for new (message_at i).sender) kept.machine start
 
   inputs_long : length inputs ≡ length (into j (turn.t + 1))
   inputs_long = ap length k.scene.inputs_are ∙ length-map (into j (turn.t + 1)) (input_of new)
@@ -142,32 +116,28 @@ module _
           ∙ ap (λ l. nth_input l i) k.scene.inputs_are
           ∙ get_or-map (input_of new) (into j (turn.t + 1)) i no_message _ (omega (arith, inputs_long))
 
-      -- the rows of the first messages, with one message more
-      more_rows : goes input kept.machine ≡ true → first_rows (suc i) ≡ first_rows i ++ (booking_at i ∷ [])
-      unfolding rows_upto
-      more_rows on =
-          let crossing : crosses (message_at i) (machine_for new (message_at i).sender) kept.machine ≡ true = rw input_is at on in
-          rw crossing refl
+      message_is :
+          (start : ℕ) {booking : Booking} → MessageBookingIs s (turn.t + 1) kept.machine input start booking → booking ≡ booking_of (booking_at i start)
+      message_is start made =
+          made j new (message_at i) (eqb-true (message_at i).receiver (turn.t + 1) message_into.1) input_is
 
-      same_rows : goes input kept.machine ≡ false → first_rows (suc i) ≡ first_rows i
-      unfolding rows_upto
-      same_rows off =
-          let none : crosses (message_at i) (machine_for new (message_at i).sender) kept.machine ≡ false = rw input_is at off in
-          rw none (append-nil (first_rows i))
+    -- the rows of the first messages, with one message more
+    same_rows : get_or starts i None ≡ None → first_rows (suc i) ≡ first_rows i
+    unfolding rows_upto
+    same_rows none = rw none (append-nil (first_rows i))
 
-      next_message : goes input kept.machine ≡ true → Next all_rows (first_rows i) (booking_at i)
-      next_message on =
-          let more = upto_more s j new kept.machine (into j (turn.t + 1)) kept.best.starts (suc i) (length inputs) below in
+    module _ {start : ℕ} (goes : get_or starts i None ≡ Some start) where
+      more_rows : first_rows (suc i) ≡ first_rows i ++ (booking_at i start ∷ [])
+      unfolding rows_upto
+      more_rows = rw goes refl
+
+      next_message : Next all_rows (first_rows i) (booking_at i start)
+      next_message =
+          let more = upto_more s j new kept.machine (into j (turn.t + 1)) starts (suc i) (length inputs) below in
           record {
             rest = more.0 ++ (own_row ∷ []);
-            splits = own_last ∙ ap (λ l. l ++ (own_row ∷ [])) (more.1 ∙ ap (λ l. l ++ more.0) (more_rows on)) ∙ simp append_assoc;
+            splits = own_last ∙ ap (λ l. l ++ (own_row ∷ [])) (more.1 ∙ ap (λ l. l ++ more.0) more_rows) ∙ simp append_assoc;
           }
-
-      message_is :
-          {entry : Entry} → MessageEntryIs s (turn.t + 1) kept.machine input (get_or kept.best.starts i 0) entry →
-          entry ≡ entry_for 0 (booking_at i)
-      message_is made =
-          made j new (message_at i) (eqb-true (message_at i).receiver (turn.t + 1) message_into.1) input_is
 
   -- the task's own row
   own_booked : own_row ≡ task_booking s j (turn.t + 1) kept.machine kept.best.start
@@ -179,9 +149,9 @@ module _
   own_runs = k.trial.finish_is ∙ ap (λ row. row.finish) own_booked
 
   own_is :
-      {entry : Entry} → TaskEntryIs s (turn.t + 1) kept.machine kept.best.start (kept.best.finish - kept.best.start) entry →
-      entry ≡ entry_for 0 own_row
-  own_is made = made j (omega (arith, own_runs)) ∙ ap (entry_for 0) (sym own_booked)
+      {booking : Booking} → TaskBookingIs s (turn.t + 1) kept.machine kept.best.start (kept.best.finish - kept.best.start) booking →
+      booking ≡ booking_of own_row
+  own_is made = made j (omega (arith, own_runs)) ∙ ap booking_of (sym own_booked)
 
   -- a row of those held, and of the job so far
   old_drawable : (row : Row) → Memᴰ row (rows ++ new) → Drawable (hold_of row)
@@ -235,7 +205,7 @@ module _
         taken.within
         (low, high)
 
-    module _ {line : Timeline spans_room} {own : List Entry} (so_far : Behind rows new done line own) where
+    module _ {line : Spans} {own : List Entry} (so_far : Behind rows new done line own) where
       pushable : Pushable rows (new ++ done) line own
       pushable = record {
         held_few = k.held_few;
@@ -247,27 +217,26 @@ module _
       }
 
       behind_more :
-          {entry : Entry} {line' : Timeline spans_room} {own' : List Entry} → Pushed line own entry line' own' → entry ≡ entry_for 0 row →
+          {booking : Booking} {line' : Spans} {own' : List Entry} → Pushed line own booking line' own' → booking ≡ booking_of row →
           Behind rows new (done ++ (row ∷ [])) line' own'
-      behind_more {entry} pushed is =
+      behind_more pushed is =
           let takes = in_range_drawable k.scene.sound next_in_range in
-          let same : entry ≡ entry_for entry.at row = is ∙ ap (λ x. entry_for x.at row) (sym is) in
           record {
-            line_is = rw (← append_assoc new done (row ∷ [])) (pushed.line_is rows (new ++ done) row pushable takes untaken same);
-            own_is = rw (← append_assoc new done (row ∷ [])) (pushed.own_is rows (new ++ done) row pushable takes untaken same);
+            line_is = rw (← append_assoc new done (row ∷ [])) (pushed.line_is rows (new ++ done) row pushable takes untaken is);
+            own_is = rw (← append_assoc new done (row ∷ [])) (pushed.own_is rows (new ++ done) row pushable takes untaken is);
           }
 
 -- The loop: the rows of the first i messages follow those of the job.
 pub record Appending
-    (s : Setup) (kept : Kept) (inputs : List Input) (turn : TaskTurn) (line₀ : Timeline spans_room) (own₀ : List Entry)
-    (line : Timeline spans_room) (own : List Entry) (i : ℕ) : Type 0 where
+    (s : Setup) (kept : Kept) (starts : List (Option ℕ)) (inputs : List Input) (turn : TaskTurn) (line₀ : Spans) (own₀ : List Entry)
+    (line : Spans) (own : List Entry) (i : ℕ) : Type 0 where
   pub follows :
-      (j : Job) (base : ℕ) (rows new : List Row) (k : Keeping s j base rows new kept inputs turn line₀ own₀) → Behind rows new (first_rows k i) line own
+      (j : Job) (base : ℕ) (rows new : List Row) (k : Keeping s j base rows new kept starts inputs turn line₀ own₀) → Behind rows new (first_rows k i) line own
 
 module _
-    {s : Setup} {kept : Kept} {inputs : List Input} {turn : TaskTurn} {line₀ : Timeline spans_room} {own₀ : List Entry}
-    (ask : AskAppend s kept inputs turn line₀ own₀) where
-  pub appending_none : Appending s kept inputs turn line₀ own₀ line₀ own₀ 0
+    {s : Setup} {kept : Kept} {starts : List (Option ℕ)} {inputs : List Input} {turn : TaskTurn} {line₀ : Spans} {own₀ : List Entry}
+    (ask : AskAppend s kept starts inputs turn line₀ own₀) where
+  pub appending_none : Appending s kept starts inputs turn line₀ own₀ line₀ own₀ 0
   unfolding rows_upto
   appending_none = record {
     follows = λ j base rows new k. record { line_is = rw (append-nil new) k.line_is; own_is = rw (append-nil new) k.own_is };
@@ -280,7 +249,7 @@ module _
   pub own_lasts : kept.best.start ≤ kept.best.finish
   own_lasts = omega (arith, own_runs ask.keeping)
 
-  pub own_asked : AskTaskEntry s (turn.t + 1) kept.machine kept.best.start (kept.best.finish - kept.best.start)
+  pub own_asked : AskTaskBooking s (turn.t + 1) kept.machine kept.best.start (kept.best.finish - kept.best.start)
   own_asked =
       let k = ask.keeping in
       let most = (task_figures s ask.job k.scene.range k.scene.listed).runs kept.machine k.there in
@@ -292,7 +261,7 @@ module _
         run_at_most = omega (arith, own_runs k);
       }
 
-  module _ {line : Timeline spans_room} {own : List Entry} {i : ℕ} (so_far : Appending s kept inputs turn line₀ own₀ line own i) where
+  module _ {line : Spans} {own : List Entry} {i : ℕ} (so_far : Appending s kept starts inputs turn line₀ own₀ line own i) where
     -- a row that is next
     push_asked : {row : Row} → Next (all_rows ask.keeping) (first_rows ask.keeping i) row → AskPush line own
     push_asked next = record {
@@ -313,25 +282,16 @@ module _
       below = rw same_inputs at listed
 
       -- that takes no row
-      appending_same : goes input kept.machine ≡ false → Appending s kept inputs turn line₀ own₀ line own (suc i)
-      appending_same off = record { follows = λ j base rows new k. rw (same_rows k below is off) (so_far.follows j base rows new k) }
-
-      pub appending_there : input.source ≡ kept.machine → Appending s kept inputs turn line₀ own₀ line own (suc i)
-      appending_there same = appending_same (stays_there input kept.machine same)
-
-      pub appending_light : (input.source ≡ kept.machine → ⊥) → input.volume ≡ 0 → Appending s kept inputs turn line₀ own₀ line own (suc i)
-      appending_light apart none = appending_same (stays_light input kept.machine apart none)
+      pub appending_same : get_or starts i None ≡ None → Appending s kept starts inputs turn line₀ own₀ line own (suc i)
+      appending_same none = record { follows = λ j base rows new k. rw (same_rows k below none) (so_far.follows j base rows new k) }
 
       -- that takes one
-      module _ (apart : input.source ≡ kept.machine → ⊥) (some : input.volume ≡ 0 → ⊥) where
-        on : goes input kept.machine ≡ true
-        on = goes_on input kept.machine apart some
-
-        pub message_asked : AskMessageEntry s (turn.t + 1) kept.machine input (get_or kept.best.starts i 0)
+      module _ {start : ℕ} (goes : get_or starts i None ≡ Some start) where
+        pub message_asked : AskMessageBooking s (turn.t + 1) kept.machine input start
         message_asked =
             let k = ask.keeping in
             let same = input_is k below is in
-            let range = next_in_range k (next_message k below is on) in
+            let range = next_in_range k (next_message k below goes) in
             let lasts = range.lasts in
             let ends = range.ends in
             let tasks = in_range_ends s ask.job k.scene.range (message_at k i) (message_into k below).0 in
@@ -346,18 +306,17 @@ module _
             }
 
         pub message_push_asked : AskPush line own
-        message_push_asked = push_asked (next_message ask.keeping below is on)
+        message_push_asked = push_asked (next_message ask.keeping below goes)
 
         pub appending_more :
-            {entry : Entry} → MessageEntryIs s (turn.t + 1) kept.machine input (get_or kept.best.starts i 0) entry →
-            {line' : Timeline spans_room} {own' : List Entry} → Pushed line own entry line' own' →
-            Appending s kept inputs turn line₀ own₀ line' own' (suc i)
+            {booking : Booking} → MessageBookingIs s (turn.t + 1) kept.machine input start booking →
+            {line' : Spans} {own' : List Entry} → Pushed line own booking line' own' → Appending s kept starts inputs turn line₀ own₀ line' own' (suc i)
         appending_more made pushed = record {
           follows =
               λ j base rows new k.
               rw
-              (more_rows k below is on)
-              (behind_more k (next_message k below is on) (so_far.follows j base rows new k) pushed (message_is k below is made));
+              (more_rows k below goes)
+              (behind_more k (next_message k below goes) (so_far.follows j base rows new k) pushed (message_is k below is start made));
         }
 
     -- the task's own row, after the last message
@@ -366,12 +325,12 @@ module _
       last = omega (arith, ap length same_inputs)
 
       all_last :
-          {j : Job} {base : ℕ} {rows new : List Row} (k : Keeping s j base rows new kept inputs turn line₀ own₀) →
+          {j : Job} {base : ℕ} {rows new : List Row} (k : Keeping s j base rows new kept starts inputs turn line₀ own₀) →
           all_rows k ≡ first_rows k i ++ (own_row k ∷ [])
       all_last k = rw last (own_last k)
 
       next_last :
-          {j : Job} {base : ℕ} {rows new : List Row} (k : Keeping s j base rows new kept inputs turn line₀ own₀) →
+          {j : Job} {base : ℕ} {rows new : List Row} (k : Keeping s j base rows new kept starts inputs turn line₀ own₀) →
           Next (all_rows k) (first_rows k i) (own_row k)
       next_last k = record { rest = []; splits = all_last k }
 
@@ -379,10 +338,10 @@ module _
       own_push_asked = push_asked (next_last ask.keeping)
 
       module _
-          {entry : Entry} (made : TaskEntryIs s (turn.t + 1) kept.machine kept.best.start (kept.best.finish - kept.best.start) entry)
-          {line' : Timeline spans_room} {own' : List Entry} (pushed : Pushed line own entry line' own') where
+          {booking : Booking} (made : TaskBookingIs s (turn.t + 1) kept.machine kept.best.start (kept.best.finish - kept.best.start) booking)
+          {line' : Spans} {own' : List Entry} (pushed : Pushed line own booking line' own') where
         all_behind :
-            {j : Job} {base : ℕ} {rows new : List Row} (k : Keeping s j base rows new kept inputs turn line₀ own₀) →
+            {j : Job} {base : ℕ} {rows new : List Row} (k : Keeping s j base rows new kept starts inputs turn line₀ own₀) →
             Behind rows new (all_rows k) line' own'
         all_behind {j} {base} {rows} {new} k =
             subst
@@ -390,7 +349,7 @@ module _
             (sym (all_last k))
             (behind_more k (next_last k) (so_far.follows j base rows new k) pushed (own_is k made))
 
-        pub appended_all : AppendedIs s kept inputs turn line₀ own₀ line' own'
+        pub appended_all : AppendedIs s kept starts inputs turn line₀ own₀ line' own'
         appended_all = record {
           line_is = λ j base rows new k. (all_behind k).line_is;
           own_is = λ j base rows new k. (all_behind k).own_is;

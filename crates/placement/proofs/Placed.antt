@@ -39,8 +39,8 @@ use Rattle.rules.proofs.Apart.{AllApart, turn_apart, shares_none_apart, apart_sh
 use Rattle.rules.proofs.Resources.{holds_append}
 use Rattle.rules.specs.declared.answers.Admission.{Admission}
 use Rattle.timeline.specs.Lines.{LineOf}
-use Rattle.timeline.specs.RowLine.{most_own, spans_room}
-use Rattle.timeline.specs.declared.line.Timeline.{Timeline}
+use Rattle.timeline.specs.RowLine.{most_own}
+use Rattle.timeline.specs.Spans.{Spans}
 use Rattle.drcd.specs.declared.TaskTurn.{TaskTurn}
 use Rattle.drcd.specs.declared.choice.Kept.{Kept}
 use Rattle.drcd.specs.declared.inputs.Input.{Input}
@@ -54,7 +54,7 @@ use Rattle.placement.specs.Own.{OwnRows}
 use Rattle.placement.specs.Appending.{Keeping, AppendedIs}
 use Rattle.placement.specs.Placements.{Placeable, Placed}
 use Rattle.placement.proofs.Pushing.{line_drawn_on}
-use Rattle.placement.proofs.Appending.{in_range_drawable}
+use Rattle.timeline.proofs.Drawing.{in_range_drawable}
 use Rattle.placement.proofs.Floors.{Released, released_none, TurnOf, release_low, release_now, released_more}
 
 pub costs_at_most : (s : Setup) (rows : List Row) → ((row : Row) → Memᴰ row rows → RowInRange s row) → costs rows ≤ length rows * largest_cost
@@ -64,12 +64,12 @@ costs_at_most s (row ∷ rows) h =
     let below = costs_at_most s rows (λ r n. h r (Memᴰ.tail n)) in
     omega arith
 
-module _ (s : Setup) (j : Job) (rows : List Row) {base : ℕ} {line₀ : Timeline spans_room} (ask : Placeable s j rows base line₀) where
+module _ (s : Setup) (j : Job) (rows : List Row) {base : ℕ} {line₀ : Spans} (ask : Placeable s j rows base line₀) where
   abbrev ground : Ground
   ground = on_rows base rows
 
   -- what holds before each turn
-  pub record SoFar (spots : List (Option Spot)) (line : Timeline spans_room) (own : List Entry) (cost release turns : ℕ) : Type 0 where
+  pub record SoFar (spots : List (Option Spot)) (line : Spans) (own : List Entry) (cost release turns : ℕ) : Type 0 where
     pub new : List Row
     pub spots_long : length spots ≡ most_tasks
     pub count_at_most : length new ≤ most_own
@@ -133,7 +133,7 @@ module _ (s : Setup) (j : Job) (rows : List Row) {base : ℕ} {line₀ : Timelin
   unfolding place_from turn
   turn_books new k t trial e c = ap (λ o. after_turn k new (with_task new o)) e ∙ ap (λ o. after_turn k new (with_trial t o)) c
 
-  module _ {spots : List (Option Spot)} {line : Timeline spans_room} {own : List Entry} {cost release turns : ℕ}
+  module _ {spots : List (Option Spot)} {line : Spans} {own : List Entry} {cost release turns : ℕ}
       (p : SoFar spots line own cost release turns) where
     abbrev new : List Row
     new = p.new
@@ -235,8 +235,8 @@ module _ (s : Setup) (j : Job) (rows : List Row) {base : ℕ} {line₀ : Timelin
             }
 
         -- the trial that is kept
-        module _ (kept : Kept) (is_choice : choice s ground j new (i + 1) ≡ some (try s ground j new (i + 1) kept.machine))
-            (it : IsTrial s j ground new (i + 1) kept.machine kept.best) where
+        module _ (kept : Kept) (starts : List (Option ℕ)) (is_choice : choice s ground j new (i + 1) ≡ some (try s ground j new (i + 1) kept.machine))
+            (it : IsTrial s j ground new (i + 1) kept.machine kept.best starts) where
           abbrev m : ℕ
           m = kept.machine
 
@@ -271,7 +271,7 @@ module _ (s : Setup) (j : Job) (rows : List Row) {base : ℕ} {line₀ : Timelin
               let listed = length-take j.messagecount j.messages in
               omega arith
 
-          pub keeping : Keeping s j base rows new kept inputs its_turn line own
+          pub keeping : Keeping s j base rows new kept starts inputs its_turn line own
           keeping =
               let both = length-append new (trial_rows trial) in
               let fit = all_fit in
@@ -369,7 +369,7 @@ module _ (s : Setup) (j : Job) (rows : List Row) {base : ℕ} {line₀ : Timelin
           }
 
           pub so_far_more :
-              {line' : Timeline spans_room} {own' : List Entry} → AppendedIs s kept inputs its_turn line own line' own' →
+              {line' : Spans} {own' : List Entry} → AppendedIs s kept starts inputs its_turn line own line' own' →
               SoFar spots_more line' own' (cost + kept.best.cost) next_release (suc turns)
           so_far_more appended =
               let again : i + 1 - 1 ≡ i = omega arith in

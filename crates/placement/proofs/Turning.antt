@@ -11,8 +11,7 @@ use Rattle.rules.specs.declared.Job.{Job}
 use Rattle.rules.specs.declared.Setup.{Setup}
 use Rattle.rules.specs.Words.{most_tasks, no_task, task_of}
 use Rattle.rules.specs.Placing.{next_task, on_rows}
-use Rattle.timeline.specs.RowLine.{spans_room}
-use Rattle.timeline.specs.declared.line.Timeline.{Timeline}
+use Rattle.timeline.specs.Spans.{Spans}
 use Rattle.drcd.specs.declared.TaskTurn.{TaskTurn}
 use Rattle.drcd.specs.declared.choice.Kept.{Kept}
 use Rattle.drcd.specs.declared.inputs.Input.{Input}
@@ -28,18 +27,18 @@ use Rattle.placement.proofs.Placed.{SoFar, so_far_none, so_far_more, cost_at_mos
 use Rattle.placement.proofs.Placed.{turn_none, turn_late, all_turns}
 
 -- what holds before each turn, of all rows that the timeline is of
-pub record Turning (s : Setup) (j : Job) (base : ℕ) (line₀ : Timeline spans_room) (spots : List (Option Spot)) (line : Timeline spans_room) (own : List Entry)
+pub record Turning (s : Setup) (j : Job) (base : ℕ) (line₀ : Spans) (spots : List (Option Spot)) (line : Spans) (own : List Entry)
     (cost release turns : ℕ) : Type 0 where
   pub so_far : (rows : List Row) (ask : Placeable s j rows base line₀) → SoFar s j rows ask spots line own cost release turns
 
-module _ {s : Setup} {j : Job} {base : ℕ} {line₀ : Timeline spans_room} (asked : AskPlace s j base line₀) where
-  abbrev Now : List (Option Spot) → Timeline spans_room → List Entry → (cost release turns : ℕ) → Type 0
+module _ {s : Setup} {j : Job} {base : ℕ} {line₀ : Spans} (asked : AskPlace s j base line₀) where
+  abbrev Now : List (Option Spot) → Spans → List Entry → (cost release turns : ℕ) → Type 0
   Now = Turning s j base line₀
 
   pub turning_none : {own : List Entry} → own ≡ [] → Now (replicate most_tasks None) line₀ own 0 base 0
   turning_none empty = record { so_far = λ rows ask. so_far_none s j rows ask empty }
 
-  module _ {spots : List (Option Spot)} {line : Timeline spans_room} {own : List Entry} {cost release turns : ℕ} (now : Now spots line own cost release turns) where
+  module _ {spots : List (Option Spot)} {line : Spans} {own : List Entry} {cost release turns : ℕ} (now : Now spots line own cost release turns) where
     abbrev witness : SoFar s j asked.rows asked.placeable spots line own cost release turns
     witness = now.so_far asked.rows asked.placeable
 
@@ -99,10 +98,10 @@ module _ {s : Setup} {j : Job} {base : ℕ} {line₀ : Timeline spans_room} (ask
           pub choose_asked : AskChoose s j inputs line its_turn
           choose_asked = record { ground = on_rows base asked.rows; new = witness.new; scene = scene_of asked.rows asked.placeable }
 
-          module _ {found : Option Kept} (choosing : ChoiceIs s j inputs line its_turn found) where
+          module _ {found : Option Kept} {starts : List (Option ℕ)} (choosing : ChoiceIs s j inputs line its_turn found starts) where
             kept_of :
                 (rows : List Row) (ask : Placeable s j rows base line₀) →
-                IsKeptOf s j (on_rows base rows) (now.so_far rows ask).new (t + 1) found
+                IsKeptOf s j (on_rows base rows) (now.so_far rows ask).new (t + 1) found starts
             kept_of rows ask = choosing.is (on_rows base rows) (now.so_far rows ask).new (scene_of rows ask)
 
             pub turning_late : found ≡ None → PlacedIs s j base line₀ line own (Err (record { task = t + 1 }))
@@ -117,12 +116,12 @@ module _ {s : Setup} {j : Job} {base : ℕ} {line₀ : Timeline spans_room} (ask
 
               keeping_of :
                   (rows : List Row) (ask : Placeable s j rows base line₀) →
-                  Keeping s j base rows (now.so_far rows ask).new kept inputs its_turn line own
+                  Keeping s j base rows (now.so_far rows ask).new kept starts inputs its_turn line own
               keeping_of rows ask =
                   let one = (kept_of rows ask).one_found kept is in
-                  keeping s j rows ask (now.so_far rows ask) t (is_next rows ask) inputs more (release + dispatch) release_is (inputs_of rows ask) kept one.0 one.1
+                  keeping s j rows ask (now.so_far rows ask) t (is_next rows ask) inputs more (release + dispatch) release_is (inputs_of rows ask) kept starts one.0 one.1
 
-              pub append_asked : AskAppend s kept inputs its_turn line own
+              pub append_asked : AskAppend s kept starts inputs its_turn line own
               append_asked = record {
                 job = j;
                 base = base;
@@ -133,13 +132,13 @@ module _ {s : Setup} {j : Job} {base : ℕ} {line₀ : Timeline spans_room} (ask
               }
 
               pub turning_more :
-                  {line' : Timeline spans_room} {own' : List Entry} → AppendedIs s kept inputs its_turn line own line' own' →
+                  {line' : Spans} {own' : List Entry} → AppendedIs s kept starts inputs its_turn line own line' own' →
                   Now (set spots t (Some (record { machine = kept.machine; finish = kept.best.finish }))) line' own' (cost + kept.best.cost)
                   (release + dispatch) (suc turns)
               turning_more appended = record {
                 so_far =
                     λ rows ask.
                     let one = (kept_of rows ask).one_found kept is in
-                    so_far_more s j rows ask (now.so_far rows ask) t (is_next rows ask) inputs more (release + dispatch) release_is (inputs_of rows ask) kept one.0 one.1
+                    so_far_more s j rows ask (now.so_far rows ask) t (is_next rows ask) inputs more (release + dispatch) release_is (inputs_of rows ask) kept starts one.0 one.1
                     appended;
               }

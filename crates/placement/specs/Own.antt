@@ -2,18 +2,17 @@
 use Rattle.std.specs.Prelude.{◌≡◌, List, ◌++◌, ℕ, ◌<◌, length, get_or, take}
 use Rattle.rules.specs.declared.Holder.TheVariants.{TaskOn}
 use Rattle.rules.specs.declared.Row.{Row}
-use Rattle.rules.specs.declared.Setup.{Setup}
-use Rattle.rules.specs.Bounds.{Sound, RowInRange}
 use Rattle.rules.specs.Placing.{no_row}
-use Rattle.timeline.specs.RowLine.{row_begin, row_end, line_of, GoesAt}
+use Rattle.timeline.specs.RowLine.{line_of, GoesAt}
+use Rattle.timeline.specs.Bookings.{booking_of}
 use Rattle.placement.specs.declared.own.Entry.{Entry}
 
 -- what a row is noted as, once it has gone to an index
 abbrev pub entry_for : (at : ℕ) → Row → Entry
-entry_for at row = record { at = at; begin = row_begin row; end = row_end row; holder = row.holder; cost = row.cost }
+entry_for at row = record { at = at; booking = booking_of row }
 
 abbrev pub no_entry : Entry
-no_entry = record { at = 0; begin = 0; end = 0; holder = TaskOn 0 0; cost = 0 }
+no_entry = record { at = 0; booking = record { begin = 0; end = 0; holder = TaskOn 0 0; cost = 0 } }
 
 abbrev pub nth_entry : List Entry → ℕ → Entry
 nth_entry own i = get_or own i no_entry
@@ -23,7 +22,3 @@ pub record OwnRows (rows new : List Row) (own : List Entry) : Type 0 where
   pub long : length own ≡ length new
   pub is : (i : ℕ) → i < length new → nth_entry own i ≡ entry_for (nth_entry own i).at (get_or new i no_row)
   pub goes : (i : ℕ) → i < length new → GoesAt (line_of (rows ++ take i new)) (get_or new i no_row) (nth_entry own i).at
-
--- whichever row in range has the figures and the number
-abbrev pub RowIs : Entry → (job : ℕ) → Row → Type 0
-RowIs entry job r = (s : Setup) (row : Row) → Sound s → RowInRange s row → entry ≡ entry_for entry.at row → row.job ≡ job → r ≡ row

@@ -10,14 +10,14 @@ use Rattle.rules.specs.Placing.{costs, Placing, booked, late, place, on_rows}
 use Rattle.rules.specs.Bounds.{Sound, RowInRange}
 use Rattle.rules.specs.Demands.{InRange, NoSharedTick}
 use Rattle.timeline.specs.Lines.{LineOf}
-use Rattle.timeline.specs.RowLine.{most_own, spans_room}
-use Rattle.timeline.specs.declared.line.Timeline.{Timeline}
+use Rattle.timeline.specs.RowLine.{most_own}
+use Rattle.timeline.specs.Spans.{Spans}
 use Rattle.placement.specs.declared.own.Entry.{Entry}
 use Rattle.placement.specs.declared.place.Late.{Late}
 use Rattle.placement.specs.Own.{OwnRows}
 
 -- a job in range, and the timeline of the rows held
-pub record Placeable (s : Setup) (j : Job) (rows : List Row) (base : ℕ) (line : Timeline spans_room) : Type 0 where
+pub record Placeable (s : Setup) (j : Job) (rows : List Row) (base : ℕ) (line : Spans) : Type 0 where
   pub sound : Sound s
   pub range : InRange s j
   pub base_at_most : base ≤ horizon + largest_time
@@ -26,7 +26,7 @@ pub record Placeable (s : Setup) (j : Job) (rows : List Row) (base : ℕ) (line 
   pub apart : NoSharedTick rows
   pub line_is : LineOf rows line
 
-pub record AskPlace (s : Setup) (j : Job) (base : ℕ) (line : Timeline spans_room) : Type 0 where
+pub record AskPlace (s : Setup) (j : Job) (base : ℕ) (line : Spans) : Type 0 where
   pub rows : List Row
   pub placeable : Placeable s j rows base line
 
@@ -36,7 +36,7 @@ placing_of (Ok admission) rows = booked rows
 placing_of (Err l) rows = late l.task
 
 -- the job's rows, all of them if no task is late: the placing is the rules', their spans have joined the timeline, and they are in `own`
-pub record Placed (s : Setup) (base : ℕ) (rows : List Row) (j : Job) (line : Timeline spans_room) (own : List Entry) (r : Result Admission Late) : Type 0 where
+pub record Placed (s : Setup) (base : ℕ) (rows : List Row) (j : Job) (line : Spans) (own : List Entry) (r : Result Admission Late) : Type 0 where
   pub new : List Row
   pub is : placing_of r new ≡ place s (on_rows base rows) j
   pub admission_is : (a : Admission) → r ≡ Ok a → (a.rows ≡ length new) × (a.cost ≡ costs new)
@@ -45,5 +45,5 @@ pub record Placed (s : Setup) (base : ℕ) (rows : List Row) (j : Job) (line : T
   pub line_is : LineOf (rows ++ new) line
   pub own_is : OwnRows rows new own
 
-abbrev pub PlacedIs : Setup → Job → (base : ℕ) → (line line' : Timeline spans_room) → List Entry → Result Admission Late → Type 0
+abbrev pub PlacedIs : Setup → Job → (base : ℕ) → (line line' : Spans) → List Entry → Result Admission Late → Type 0
 PlacedIs s j base line line' own' r = (rows : List Row) → Placeable s j rows base line → Placed s base rows j line' own' r

@@ -1,20 +1,19 @@
-// The two functions that make an entry of a row.
-ghost use Rattle.placement.specs.Bookings.{AskTaskEntry, TaskEntryIs, AskMessageEntry, MessageEntryIs};
+// The two functions that make a booking.
+ghost use Rattle.placement.specs.Bookings.{AskTaskBooking, TaskBookingIs, AskMessageBooking, MessageBookingIs};
 
-use crate::own::Entry;
 use drcd::inputs::Input;
 use rules::codes::link_number;
 use rules::{Holder, Setup};
 use timeline::TICKS;
+use timeline::bookings::Booking;
 
-// The entry of a task's row on a machine, for the run time there. Its place is set where it is inserted.
-pub fn task_entry(setup: &Setup, task: u64, machine: u64, start: u64, run: u64) -> Entry
-    requires { AskTaskEntry setup.now task machine start run }
-    ensures { TaskEntryIs setup.now task machine start run result }
+// That of a task on a machine, for the run time there.
+pub fn task_booking(setup: &Setup, task: u64, machine: u64, start: u64, run: u64) -> Booking
+    requires { AskTaskBooking setup.now task machine start run }
+    ensures { TaskBookingIs setup.now task machine start run result }
 {
     let begin = machine * TICKS + start;
-    Entry {
-        at: 0,
+    Booking {
         begin,
         end: begin + run,
         holder: Holder::TaskOn {
@@ -25,15 +24,20 @@ pub fn task_entry(setup: &Setup, task: u64, machine: u64, start: u64, run: u64) 
     }
 }
 
-// The entry of a message's row into a task, on the link from its sender's machine to that of the task.
-pub fn message_entry(setup: &Setup, receiver: u64, machine: u64, input: &Input, start: u64) -> Entry
-    requires { AskMessageEntry setup.now receiver machine input.now start }
-    ensures { MessageEntryIs setup.now receiver machine input.now start result }
+// That of a message into a task, on the link from its sender's machine to that of the task.
+pub fn message_booking(
+    setup: &Setup,
+    receiver: u64,
+    machine: u64,
+    input: &Input,
+    start: u64,
+) -> Booking
+    requires { AskMessageBooking setup.now receiver machine input.now start }
+    ensures { MessageBookingIs setup.now receiver machine input.now start result }
 {
     let len = setup.link_time(input.source, machine) * input.volume;
     let begin = link_number(input.source, machine) * TICKS + start;
-    Entry {
-        at: 0,
+    Booking {
         begin,
         end: begin + len,
         holder: Holder::MessageOn {

@@ -5,10 +5,10 @@ use crate::append::append;
 use crate::own::Own;
 use drcd::TaskTurn;
 use drcd::choice::choose;
-use drcd::inputs::gather;
+use drcd::inputs::{Inputs, gather};
 use drcd::order::{Spot, next_ready};
 use rules::answers::Admission;
-use rules::{Job, Setup, TASKS};
+use rules::{Job, MESSAGES, Setup, TASKS};
 use timeline::SPANS;
 use timeline::line::Timeline;
 
@@ -32,6 +32,8 @@ pub fn place(
 {
     own.clear();
     let mut spots = [None; TASKS];
+    let mut inputs = Inputs::new();
+    let mut starts = [None; MESSAGES];
     let mut cost = 0;
     // 01's floor. Between turns: the base, and the dispatch times of the tasks placed so far; each turn adds that of its own task.
     let mut release = base;
@@ -40,12 +42,12 @@ pub fn place(
             break;
         };
         release += job.tasks[t].dispatch;
-        let inputs = gather(job, t, &spots);
+        gather(job, t, &spots, &mut inputs);
         let turn = TaskTurn { t, release };
-        let Some(kept) = choose(setup, job, &inputs, line, turn) else {
+        let Some(kept) = choose(setup, job, &inputs, line, turn, &mut starts) else {
             return Err(Late { task: t as u64 + 1 });
         };
-        append(setup, &kept, &inputs, turn, line, own);
+        append(setup, &kept, &starts, &inputs, turn, line, own);
         spots[t] = Some(Spot {
             machine: kept.machine,
             finish: kept.best.finish,

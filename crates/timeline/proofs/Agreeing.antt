@@ -13,7 +13,9 @@ use Rattle.rules.specs.Laws.{Free, IsLeast}
 use Rattle.rules.proofs.Sequences.{by_less, keep_append, mem_keep, map_mem}
 use Rattle.rules.proofs.LeastTick.{least_is_least, least_unique, least_at_most}
 use Rattle.timeline.specs.declared.line.Sought.{Sought}
+use Rattle.timeline.specs.Spans.{Spans}
 use Rattle.timeline.specs.Timeline.{Known, Drawable, Drawn, AskLeast, LeastIs, tick_limit}
+use Rattle.timeline.specs.Lines.{DrawnOn}
 use Rattle.timeline.specs.Beside.{AskBeside, BesideIs}
 use Rattle.timeline.proofs.Drawing.{known_below, drawn_asks}
 
@@ -113,12 +115,16 @@ module _ (len : ℕ) (a b : List Span) where
       }
 
 -- The turns of the search, whatever is drawn.
-pub record Turned (begins ends : List ℕ) (count : ℕ) (other_begins other_ends : List ℕ) (others code len start found again : ℕ) : Type 0 where
+pub record Turned (t other : Spans) (code len start found again : ℕ) : Type 0 where
   pub found_at_most : found ≤ tick_limit
   pub again_at_most : again ≤ tick_limit
   pub agreeing :
-      (held beside : List Hold) (on : Resource) → Drawn held begins ends count → Drawn beside other_begins other_ends others → Known on →
-      resource_number on ≡ code → Agreeing len (spans_on on held) (spans_on on beside) start found again
+      (held beside : List Hold) (on : Resource) → DrawnOn held t → DrawnOn beside other → Known on → resource_number on ≡ code →
+      Agreeing len (spans_on on held) (spans_on on beside) start found again
+
+-- what is answered for a timeline
+abbrev pub LeastOf : Spans → (code from len r : ℕ) → Type 0
+LeastOf t code from len r = LeastIs t.begins t.ends t.count code from len r
 
 -- an answer is the least tick
 answer_least :
@@ -128,108 +134,105 @@ answer_least :
 answer_least {from = from} {len = len} answer held on drawn known number some =
     rw (answer.is held on drawn known number some) (least_is_least from len (spans_on on held))
 
-module _
-    {begins ends : List ℕ} {count : ℕ} {other_begins other_ends : List ℕ} {others : ℕ} {sought : Sought}
-    (ask : AskBeside begins ends count other_begins other_ends others sought)
-  where
-    code_below : sought.resource < resource_bound
-    code_below = let same = ask.code_is in omega (arith, known_below ask.known)
+module _ {t other : Spans} {sought : Sought} (ask : AskBeside t other sought) where
+  code_below : sought.resource < resource_bound
+  code_below = let same = ask.code_is in omega (arith, known_below ask.known)
 
-    -- each may be asked
-    pub asks_own : (from : ℕ) → from ≤ tick_limit → AskLeast begins ends count sought.resource from sought.len
-    asks_own from early = drawn_asks ask.held _ _ _ ask.drawn _ from _ code_below early ask.len_at_most
+  -- each may be asked
+  pub asks_own : (from : ℕ) → from ≤ tick_limit → AskLeast t.ends t.count sought.resource from sought.len
+  asks_own from early = drawn_asks ask.held _ _ _ ask.drawn _ from _ code_below early ask.len_at_most
 
-    pub asks_other : (from : ℕ) → from ≤ tick_limit → AskLeast other_begins other_ends others sought.resource from sought.len
-    asks_other from early = drawn_asks ask.beside _ _ _ ask.drawn_beside _ from _ code_below early ask.len_at_most
+  pub asks_other : (from : ℕ) → from ≤ tick_limit → AskLeast other.ends other.count sought.resource from sought.len
+  asks_other from early = drawn_asks ask.beside _ _ _ ask.drawn_beside _ from _ code_below early ask.len_at_most
 
-    -- and answers a tick by the last
-    pub own_at_most : (from r : ℕ) → from ≤ tick_limit → LeastIs begins ends count sought.resource from sought.len r → r ≤ tick_limit
-    own_at_most from r early answer =
-        let is = answer.is ask.held ask.on ask.drawn ask.known ask.code_is ask.some in
-        omega (arith, drawable_found ask.held ask.drawn.drawable ask.on from sought.len early)
+  -- and answers a tick by the last
+  pub own_at_most : (from r : ℕ) → from ≤ tick_limit → LeastOf t sought.resource from sought.len r → r ≤ tick_limit
+  own_at_most from r early answer =
+      let is = answer.is ask.held ask.on ask.drawn ask.known ask.code_is ask.some in
+      omega (arith, drawable_found ask.held ask.drawn.drawable ask.on from sought.len early)
 
-    pub other_at_most :
-        (from r : ℕ) → from ≤ tick_limit → LeastIs other_begins other_ends others sought.resource from sought.len r → r ≤ tick_limit
-    other_at_most from r early answer =
-        let is = answer.is ask.beside ask.on ask.drawn_beside ask.known ask.code_is ask.some in
-        omega (arith, drawable_found ask.beside ask.drawn_beside.drawable ask.on from sought.len early)
+  pub other_at_most :
+      (from r : ℕ) → from ≤ tick_limit → LeastOf other sought.resource from sought.len r → r ≤ tick_limit
+  other_at_most from r early answer =
+      let is = answer.is ask.beside ask.on ask.drawn_beside ask.known ask.code_is ask.some in
+      omega (arith, drawable_found ask.beside ask.drawn_beside.drawable ask.on from sought.len early)
 
-    pub turned_first :
-        (found again : ℕ) → LeastIs begins ends count sought.resource sought.from sought.len found →
-        LeastIs other_begins other_ends others sought.resource found sought.len again →
-        Turned begins ends count other_begins other_ends others sought.resource sought.len found found again
-    turned_first found again own other =
-        let low = own_at_most sought.from found ask.from_at_most own in
-        record {
-          found_at_most = low;
-          again_at_most = other_at_most found again low other;
-          agreeing =
-              λ held beside on drawn drawn_beside known number.
-              agreeing_first
-              sought.len
-              (spans_on on held)
-              (spans_on on beside)
-              sought.from
-              found
-              again
-              (answer_least own held on drawn known number ask.some)
-              (answer_least other beside on drawn_beside known number ask.some);
-        }
+  pub turned_first :
+      (found again : ℕ) → LeastOf t sought.resource sought.from sought.len found →
+      LeastOf other sought.resource found sought.len again →
+      Turned t other sought.resource sought.len found found again
+  turned_first found again own other =
+      let low = own_at_most sought.from found ask.from_at_most own in
+      record {
+        found_at_most = low;
+        again_at_most = other_at_most found again low other;
+        agreeing =
+            λ held beside on drawn drawn_beside known number.
+            agreeing_first
+            sought.len
+            (spans_on on held)
+            (spans_on on beside)
+            sought.from
+            found
+            again
+            (answer_least own held on drawn known number ask.some)
+            (answer_least other beside on drawn_beside known number ask.some);
+      }
 
-    pub turned_more :
-        (start found again found' again' : ℕ) →
-        Turned begins ends count other_begins other_ends others sought.resource sought.len start found again → found < again →
-        LeastIs begins ends count sought.resource again sought.len found' →
-        LeastIs other_begins other_ends others sought.resource found' sought.len again' →
-        Turned begins ends count other_begins other_ends others sought.resource sought.len start found' again'
-    turned_more start found again found' again' turn less own other =
-        let low = own_at_most again found' turn.again_at_most own in
-        record {
-          found_at_most = low;
-          again_at_most = other_at_most found' again' low other;
-          agreeing =
-              λ held beside on drawn drawn_beside known number.
-              agreeing_more
-              sought.len
-              (spans_on on held)
-              (spans_on on beside)
-              start
-              found
-              again
-              found'
-              again'
-              (turn.agreeing held beside on drawn drawn_beside known number)
-              less
-              (answer_least own held on drawn known number ask.some)
-              (answer_least other beside on drawn_beside known number ask.some);
-        }
+  pub turned_more :
+      (start found again found' again' : ℕ) →
+      Turned t other sought.resource sought.len start found again → found < again →
+      LeastOf t sought.resource again sought.len found' →
+      LeastOf other sought.resource found' sought.len again' →
+      Turned t other sought.resource sought.len start found' again'
+  turned_more start found again found' again' turn less own other =
+      let low = own_at_most again found' turn.again_at_most own in
+      record {
+        found_at_most = low;
+        again_at_most = other_at_most found' again' low other;
+        agreeing =
+            λ held beside on drawn drawn_beside known number.
+            agreeing_more
+            sought.len
+            (spans_on on held)
+            (spans_on on beside)
+            start
+            found
+            again
+            found'
+            again'
+            (turn.agreeing held beside on drawn drawn_beside known number)
+            less
+            (answer_least own held on drawn known number ask.some)
+            (answer_least other beside on drawn_beside known number ask.some);
+      }
 
-    -- each turn finds a later tick
-    pub turned_later : (again found' : ℕ) → LeastIs begins ends count sought.resource again sought.len found' → again ≤ found'
-    turned_later again found' own =
-        (answer_least own ask.held ask.on ask.drawn ask.known ask.code_is ask.some).not_before
+  -- each turn finds a later tick
+  pub turned_later : (again found' : ℕ) → LeastOf t sought.resource again sought.len found' → again ≤ found'
+  turned_later again found' own =
+      (answer_least own ask.held ask.on ask.drawn ask.known ask.code_is ask.some).not_before
 
-    pub turned_end :
-        (start found again : ℕ) → LeastIs begins ends count sought.resource sought.from sought.len start →
-        Turned begins ends count other_begins other_ends others sought.resource sought.len start found again → again ≤ found →
-        BesideIs begins ends count other_begins other_ends others sought found
-    turned_end start found again first turn most = record {
-      is =
-          λ held beside on drawn drawn_beside known number.
-          let from = sought.from in
-          let len = sought.len in
-          let least =
-          agreeing_end
-          len
-          (spans_on on held)
-          (spans_on on beside)
-          from
-          start
-          found
-          again
-          (answer_least first held on drawn known number ask.some)
-          (turn.agreeing held beside on drawn drawn_beside known number)
-          most
-          in
-          rw (spans_append on held beside) (least_unique from len (spans_on on held ++ spans_on on beside) least (least_is_least from len _));
-    }
+  pub turned_end :
+      (start found again : ℕ) → LeastOf t sought.resource sought.from sought.len start →
+      Turned t other sought.resource sought.len start found again → again ≤ found →
+      BesideIs t other sought found
+  turned_end start found again first turn most = record {
+    is =
+        λ held beside on drawn drawn_beside known number.
+        let from = sought.from in
+        let len = sought.len in
+        let least =
+        agreeing_end
+        len
+        (spans_on on held)
+        (spans_on on beside)
+        from
+        start
+        found
+        again
+        (answer_least first held on drawn known number ask.some)
+        (turn.agreeing held beside on drawn drawn_beside known number)
+        most
+        in
+        rw (spans_append on held beside) (least_unique from len (spans_on on held ++ spans_on on beside) least (least_is_least from len _));
+  }

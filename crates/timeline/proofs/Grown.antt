@@ -13,6 +13,8 @@ use Rattle.rules.proofs.Sequences.{by_less}
 use Rattle.rules.proofs.LeastTick.{least_is_least}
 use Rattle.rules.proofs.Resources.{spans_taken}
 use Rattle.timeline.specs.Timeline.{begin_of, end_of, Drawable, StandsAt, Drawn, FirstAfter}
+use Rattle.timeline.specs.Spans.{Spans}
+use Rattle.timeline.specs.Fields.{Within}
 use Rattle.timeline.specs.RowLine.{InsertedAt}
 use Rattle.timeline.specs.Grown.{Untaken, AskSpan, SpanPut}
 use Rattle.timeline.proofs.Drawing.{known_same}
@@ -145,15 +147,20 @@ drawn_more {begins = begins} {ends = ends} {count = count} {at = at} h drawn tak
     first
     first.at_most
 
--- What `insert_span` leaves.
+-- What `insert` leaves.
 pub span_put :
-    {begins ends begins' ends' : List ℕ} {count begin end at : ℕ} → AskSpan begins ends count → FirstAfter ends count begin at →
-    InsertedAt begins count at begin begins' → InsertedAt ends count at end ends' → SpanPut begins ends count begin end begins' ends' at
-span_put ask first b e = record {
+    {room : ℕ} {t t' : Spans} {begin end at : ℕ} → Within room t → AskSpan room t → FirstAfter t.ends t.count begin at →
+    InsertedAt t.begins t.count at begin t'.begins → InsertedAt t.ends t.count at end t'.ends → t'.count ≡ t.count + 1 → SpanPut t begin end t' at
+span_put within ask first b e more = record {
+  count_is = more;
   first_after = first;
   begins_are = b;
   ends_are = e;
   is =
       λ held h drawn begin_is end_is takes free.
-      drawn_more h drawn takes free (rw begin_is at first) (rw begin_is at b) (rw end_is at e) ask.begins_room ask.ends_room;
+      rw
+      more
+      (drawn_more h drawn takes free (rw begin_is at first) (rw begin_is at b) (rw end_is at e)
+      (omega (arith, within.begins_long, ask.fits))
+      (omega (arith, within.ends_long, ask.fits)));
 }

@@ -1,11 +1,12 @@
 -- A value put into a column at an index: the part from there on turned by one, and what then stands at each index.
 use mathlib.Core.Path.{◌≡◌, refl, ap, ◌∙◌}
 use mathlib.Core.List.{List, [], ◌∷◌, ◌++◌}
-use Prim.Native.Nat.{ℕ, suc, ◌+◌, ◌-◌, ◌≤◌, ◌<◌}
+use Prim.Native.Nat.{ℕ, ◌+◌, ◌-◌, ◌≤◌, ◌<◌}
 use native.Mathlib.Omega.{arith}
-use lib.ListN.{length, get_or, take, drop, set, length-take, length-drop, get_or-append}
-use lib.Seq.{length-take-le, take-take, get_or-take, get_or-drop, get_or_at, get_or-append-add, drop-drop}
+use lib.ListN.{length, get_or, take, drop, set, length-take, length-drop}
+use lib.Seq.{length-take-le, take-take, drop-drop}
 use borrow.Rule.Slice.PartMut.{mid_of, put_mid, same_len_mid}
+use Rattle.std.proofs.lemmas.List.{places}
 use Rattle.rules.proofs.Sequences.{by_less}
 use Rattle.timeline.specs.RowLine.{AskInsert, InsertedAt}
 
@@ -57,42 +58,13 @@ pub record PutAt (old : List ℕ) (count at value : ℕ) (new : List ℕ) : Type
   pub here : get_or new at 0 ≡ value
   pub after : (k : ℕ) → at ≤ k → k < count → get_or new (k + 1) 0 ≡ get_or old k 0
 
-module _ (old : List ℕ) (count at value : ℕ) (asked : AskInsert old count at) where
-  -- those that made room for the value, and those that stood past the count and the room
-  abbrev behind : List ℕ
-  behind = take (count - at) (drop at old) ++ drop (count + 1) old
-
-  abbrev whole : List ℕ
-  whole = take at old ++ (value ∷ behind)
-
-  front_long : length (take at old) ≡ at
-  front_long = length-take-le at old (omega arith)
-
-  middle_long : length (take (count - at) (drop at old)) ≡ count - at
-  middle_long = length-take-le (count - at) (drop at old) (simp length-drop (omega arith))
-
-  behind_it : (n : ℕ) → get_or whole (at + suc n) 0 ≡ get_or behind n 0
-  behind_it n = rw front_long at (get_or-append-add (take at old) (value ∷ behind) (suc n) 0)
-
-  whole_before : (k : ℕ) → k < at → get_or whole k 0 ≡ get_or old k 0
-  whole_before k h = get_or-append (take at old) (value ∷ behind) 0 k (rw front_long h) ∙ get_or-take at old k 0 h
-
-  whole_after : (k : ℕ) → at ≤ k → k < count → get_or whole (k + 1) 0 ≡ get_or old k 0
-  whole_after k low high =
-      let further : k + 1 ≡ at + suc (k - at) = omega arith in
-      let same : at + (k - at) ≡ k = omega arith in
-      let within : k - at < count - at = omega arith in
-      ap (λ n. get_or whole n 0) further
-      ∙ behind_it (k - at)
-      ∙ get_or-append (take (count - at) (drop at old)) (drop (count + 1) old) 0 (k - at) (rw middle_long within)
-      ∙ get_or-take (count - at) (drop at old) (k - at) 0 within
-      ∙ get_or-drop at old (k - at) 0
-      ∙ ap (λ n. get_or old n 0) same
-
-  pub put_at : {new : List ℕ} → InsertedAt old count at value new → PutAt old count at value new
-  put_at is = record {
-    room = let same = is.long in omega arith;
-    before = λ k h. ap (λ l. get_or l k 0) is.new_is ∙ whole_before k h;
-    here = ap (λ l. get_or l at 0) is.new_is ∙ get_or_at (take at old) value behind 0 at front_long;
-    after = λ k low high. ap (λ l. get_or l (k + 1) 0) is.new_is ∙ whole_after k low high;
-  }
+pub put_at : (old : List ℕ) (count at value : ℕ) → AskInsert old count at → {new : List ℕ} → InsertedAt old count at value new → PutAt old count at value new
+put_at old count at value asked is =
+    let room = asked.room in
+    let within = asked.within in
+    record {
+      room = let same = is.long in omega arith;
+      before = λ k h. rw is.new_is (grind (arith, places));
+      here = rw is.new_is (grind (arith, places));
+      after = λ k low high. rw is.new_is (grind (arith, places));
+    }

@@ -2,7 +2,7 @@
 use Prim.{Unit, tt}
 use mathlib.Core.Path.{◌≡◌, refl, sym, ap, ◌∙◌}
 use mathlib.Core.Logic.{⊎_elim}
-use mathlib.Core.Bool.{Bool, true, false, cond}
+use mathlib.Core.Bool.{Bool, true, false}
 use mathlib.Core.List.Memᴰ
 use mathlib.Core.List.{List, [], ◌∷◌, Memᴰ}
 use Prim.Native.Nat.{◌+◌, ◌<◌}
@@ -78,13 +78,8 @@ line_keep p rows = onto_keep p rows end
 insert_costs : (row : Row) (line : List Row) → costs (insert_row row line) ≡ row.cost + costs line
 unfolding insert_row
 insert_costs row [] = refl
-insert_costs row (other ∷ line) = go (ltb (row_begin row) (row_begin other)) (insert_costs row line)
-  where
-    go :
-        (t : Bool) → costs (insert_row row line) ≡ row.cost + costs line →
-        costs (cond t (row ∷ other ∷ line) (other ∷ insert_row row line)) ≡ row.cost + (other.cost + costs line)
-    go true below = refl
-    go false below = omega arith
+insert_costs row (other ∷ line) =
+    by_test (ltb (row_begin row) (row_begin other)) (λ e. rw e refl) (λ e. rw e (omega (arith, insert_costs row line)))
 
 onto_costs : (line rows : List Row) → costs (line_onto line rows) ≡ costs line + costs rows
 unfolding line_onto

@@ -6,6 +6,7 @@ pub mod Inserted
 pub mod Closed
 pub mod ColumnLaws
 pub mod Grown
+pub mod Marked
 pub mod Packed
 pub mod Costed
 pub mod Agreeing

@@ -2,205 +2,131 @@
 -- that stay.
 use mathlib.Core.Path.{◌≡◌, refl, sym, ap, ◌∙◌}
 use mathlib.Core.Bool.{Bool, true, false, not}
-use mathlib.Core.List.{List, [], ◌∷◌, ◌++◌, map, append-nil}
-use Prim.Native.Nat.{ℕ, zero, suc, ◌+◌, ◌≤◌, ◌<◌}
+use mathlib.Core.List.{List, [], ◌∷◌, ◌++◌, map}
+use Prim.Native.Nat.{ℕ, ◌+◌, ◌-◌, ◌≤◌, ◌<◌}
 use native.Mathlib.Omega.{arith}
-use native.Mathlib.Numerals.{add-one}
-use lib.ListN.{length, get_or, set, length-append, length-map, length-set, get_or-append, get_or-eq_default}
-use lib.Seq.{get_or_at, get_or-set_same, get_or-set_other}
-use Rattle.std.proofs.lemmas.List.{get_or-map}
+use lib.ListN.{length, get_or, set, take, drop, replicate, length-map, length-set, length-drop}
+use lib.Seq.{length-take-le, get_or-drop, drop-drop, drop-set-lt, take_at, drop_at}
+use borrow.Rule.Slice.PartMut.{mid_of, put_mid, same_len_mid}
+use Rattle.std.proofs.lemmas.List.{take_more_set, get_or-replicate, replicate-append-replicate, same_lists, length-replicate}
 use Rattle.rules.specs.declared.Row.{Row}
-use Rattle.rules.specs.Sequences.{keep, cons_if, numbers}
-use Rattle.rules.specs.Words.{row_limit}
 use Rattle.rules.specs.Placing.{no_row}
-use Rattle.rules.proofs.Sequences.{by_less, keep_append, keep_all, length_keep, length_numbers, numbers_more, mem_numbers}
 use Rattle.timeline.specs.RowLine.{spans_room, column, Says}
-use Rattle.timeline.specs.TakenOut.{AskKeep, KeptIs, left_of}
-use Rattle.timeline.specs.Packing.{staying, PackedIs, AskClear, ClearedIs}
-use Rattle.timeline.proofs.ColumnLaws.{column_long, column_past, column_is}
+use Rattle.timeline.specs.TakenOut.{KeptIs, left_of}
+use Rattle.timeline.specs.Packing.{by_mark, PackedIs}
+use Rattle.timeline.proofs.ColumnLaws.{column_parts}
+use Rattle.timeline.proofs.Marked.{marked_more, marked_same, marked_all, marked_rows, marked_long, marks_of}
 
--- Indices.
-
-pub keep_next : (p : ℕ → Bool) (i : ℕ) → keep p (numbers 0 (i + 1)) ≡ keep p (numbers 0 i) ++ cons_if (p i) i []
-keep_next p i =
-    let same : 0 + i ≡ i = omega arith in
-    ap (λ n. keep p (numbers 0 n)) (add-one i)
-    ∙ ap (keep p) (rw same at (numbers_more 0 i))
-    ∙ keep_append p (numbers 0 i) (i ∷ [])
-
-numbers_at : (a n k : ℕ) → k < n → get_or (numbers a n) k 0 ≡ a + k
-numbers_at a zero k h = absurd (omega arith)
-numbers_at a (suc n) zero h = omega arith
-numbers_at a (suc n) (suc k) h = let below = numbers_at (suc a) n k (omega arith) in omega arith
-
-module _ (leaves : List Bool) where
-  pub staying_few : (i : ℕ) → length (staying leaves i) ≤ i
-  staying_few i = omega (arith, length_keep (λ k. not (get_or leaves k false)) (numbers 0 i), length_numbers 0 i)
-
-  module _ (i : ℕ) where
-    stay_more : get_or leaves i false ≡ false → staying leaves (i + 1) ≡ staying leaves i ++ (i ∷ [])
-    stay_more e = keep_next (λ k. not (get_or leaves k false)) i ∙ ap (λ b. staying leaves i ++ cons_if (not b) i []) e
-
-    stay_same : get_or leaves i false ≡ true → staying leaves (i + 1) ≡ staying leaves i
-    stay_same e =
-        keep_next (λ k. not (get_or leaves k false)) i ∙ ap (λ b. staying leaves i ++ cons_if (not b) i []) e ∙ append-nil (staying leaves i)
-
-  stay_all : (from : ℕ) → ((i : ℕ) → i < from → get_or leaves i false ≡ false) → staying leaves from ≡ numbers 0 from
-  stay_all from none =
-      keep_all (λ k. not (get_or leaves k false)) (numbers 0 from) (λ k m. let within = mem_numbers 0 from m in ap not (none k (omega arith)))
-
--- The pass that packs.
-
-module _ {A : Type 0} {leaves : List Bool} where
-  pub packed_none : (old : List A) (from : ℕ) → ((i : ℕ) → i < from → get_or leaves i false ≡ false) → PackedIs old leaves from old from
-  packed_none old from none = record {
+module _ {A : Type 0} {marks : List Bool} where
+  pub packed_none : (old : List A) (from : ℕ) → from ≤ length marks → ((i : ℕ) → i < from → get_or marks i false ≡ false) → PackedIs old marks from old from
+  packed_none old from few none = record {
     long = refl;
-    front =
-        λ k d h.
-        let less : k < from = omega (arith, staying_few leaves from) in
-        let here : get_or (numbers 0 from) k 0 ≡ k = omega (arith, numbers_at 0 from k less) in
-        ap (λ n. get_or old n d) (sym (ap (λ l. get_or l k 0) (stay_all leaves from none) ∙ here));
-    after = λ k d h. refl;
-    count_is = sym (ap length (stay_all leaves from none) ∙ length_numbers 0 from);
+    at_most = omega arith;
+    front = sym (marked_all not marks old from few (λ i h. ap not (none i h)));
+    behind = refl;
   }
 
-  module _ {old new : List A} {i kept : ℕ} (packed : PackedIs old leaves i new kept) where
-    pub packed_few : kept ≤ i
-    packed_few = omega (arith, packed.count_is, staying_few leaves i)
+  module _ {old new : List A} {i kept : ℕ} (packed : PackedIs old marks i new kept) (marked : i < length marks) (within : i < length old) where
+    rest_more : drop (i + 1) new ≡ drop (i + 1) old
+    rest_more = sym (drop-drop 1 i new) ∙ ap (drop 1) packed.behind ∙ drop-drop 1 i old
 
-    pub packed_goes : get_or leaves i false ≡ true → PackedIs old leaves (i + 1) new kept
+    pub packed_goes : get_or marks i false ≡ true → PackedIs old marks (i + 1) new kept
     packed_goes e = record {
       long = packed.long;
-      front = rw (stay_same leaves i e) packed.front;
-      after = λ k d h. packed.after k d (omega arith);
-      count_is = packed.count_is ∙ sym (ap length (stay_same leaves i e));
+      at_most = omega (arith, packed.at_most);
+      front = packed.front ∙ sym (marked_same not marks old i (ap not e) marked within);
+      behind = rest_more;
     }
 
-    pub packed_stays :
-        get_or leaves i false ≡ false → i < length old → (value : A) → ((d : A) → value ≡ get_or new i d) →
-        PackedIs old leaves (i + 1) (set new kept value) (kept + 1)
-    packed_stays e within value read =
-        let s = staying leaves i in
-        let is = packed.count_is in
-        let few = packed_few in
-        let same_long = packed.long in
-        let other : (k : ℕ) (d : A) → (k ≡ kept → ⊥) → get_or (set new kept value) k d ≡ get_or new k d =
-        λ k d ne. get_or-set_other new kept k value d ne
+    pub packed_stays : get_or marks i false ≡ false → (value : A) → value ≡ get_or new i value → PackedIs old marks (i + 1) (set new kept value) (kept + 1)
+    packed_stays e value read =
+        let few = packed.at_most in
+        let here : kept < length new = omega (arith, packed.long) in
+        let none : i + 0 ≡ i = omega arith in
+        let same : value ≡ get_or old i value =
+        read ∙ rw none at (sym (get_or-drop i new 0 value) ∙ ap (λ l. get_or l 0 value) packed.behind ∙ get_or-drop i old 0 value)
         in
         record {
           long = length-set new kept value ∙ packed.long;
+          at_most = omega arith;
           front =
-              rw
-              (stay_more leaves i e)
-              (λ k d h.
-              by_less
-              k
-              kept
-              (λ less.
-              other k d (λ q. omega arith)
-              ∙ packed.front k d (omega arith)
-              ∙ ap (λ n. get_or old n d) (sym (get_or-append s (i ∷ []) 0 k (omega arith))))
-              (λ most.
-              let same : k ≡ kept = omega (arith, length-append s (i ∷ [])) in
-              rw
-              (same, get_or_at s i [] 0 kept (sym is))
-              (get_or-set_same new kept value d (omega arith) ∙ read d ∙ packed.after i d (omega arith))));
-          after = λ k d h. other k d (λ q. omega arith) ∙ packed.after k d (omega arith);
-          count_is = rw (stay_more leaves i e) (omega (arith, is, length-append s (i ∷ [])));
+              take_more_set new kept value here
+              ∙ ap (λ l. l ++ (value ∷ [])) packed.front
+              ∙ ap (λ v. by_mark not (take i marks) (take i old) ++ (v ∷ [])) same
+              ∙ sym (marked_more not marks old i value (ap not e) marked within);
+          behind = drop-set-lt (i + 1) new kept value (omega arith) ∙ rest_more;
         }
 
--- What is left: the entries of the rows that stay, and blank ones past them.
-
--- what passes a test is what stands at the indices that do
-keep_indices :
-    {A : Type 0} (p : A → Bool) (q : ℕ → Bool) (f : ℕ → A) (d : A) (l : List A) (a : ℕ) →
-    ((i : ℕ) → i < length l → (q (a + i) ≡ p (get_or l i d)) × (f (a + i) ≡ get_or l i d)) → keep p l ≡ map f (keep q (numbers a (length l)))
-keep_indices p q f d [] a same = refl
-keep_indices p q f d (x ∷ l) a same =
-    let here : a + 0 ≡ a = omega arith in
-    let first = rw here at (same 0 (omega arith)) in
-    rw
-    first.0
-    (go
-    (p x)
-    first.1
-    (keep_indices p q f d l (suc a) (λ i h. let next : a + suc i ≡ suc a + i = omega arith in rw next at (same (suc i) (omega arith)))))
+-- Those that stay, and behind them up to the count a part that is written over with blanks.
+module _
+    {A : Type 0} {old middle : List A} {leaves : List Bool} {count kept : ℕ} (few : count ≤ spans_room) (room : count ≤ length old)
+    (packed : PackedIs old leaves count middle kept)
   where
-    go :
-        (b : Bool) → f a ≡ x → keep p l ≡ map f (keep q (numbers (suc a) (length l))) →
-        cons_if b x (keep p l) ≡ map f (cons_if b a (keep q (numbers (suc a) (length l))))
-    go true e below = rw (e, below) refl
-    go false e below = below
+    abbrev part : List A
+    part = mid_of kept (count - kept) middle
 
--- Rows of which a list says which leave.
-module _ (line : List Row) (leaving : Row → Bool) {leaves : List Bool} {count : ℕ} (long : length line ≡ count) (says : Says leaving line leaves) where
-  abbrev pub row_at : ℕ → Row
-  row_at i = get_or line i no_row
+    part_long : length part ≡ count - kept
+    part_long = length-take-le (count - kept) (drop kept middle) (omega (arith, packed.long, length-drop kept middle))
 
-  pub kept_rows :
-      (p : Row → Bool) (q : ℕ → Bool) → ((i : ℕ) → i < length line → q i ≡ p (row_at i)) → keep p line ≡ map row_at (keep q (numbers 0 count))
-  kept_rows p q same =
-      rw
-      (← long)
-      (keep_indices p q row_at no_row line 0 (λ i h. let here : 0 + i ≡ i = omega arith in rw here (same i h, refl)))
+    blanks_are :
+        (items : List A) (i : ℕ) (blank : A) → length items ≡ length part → ((k : ℕ) (d : A) → k < i → get_or items k d ≡ blank) → length part ≤ i →
+        items ≡ replicate (count - kept) blank
+    blanks_are items i blank same written all =
+        let long = length-replicate (count - kept) blank in
+        same_lists
+        items
+        (replicate (count - kept) blank)
+        (omega (arith, same, part_long, long))
+        (λ k d h. written k d (omega arith) ∙ sym (get_or-replicate (count - kept) k blank d (omega (arith, same, part_long))))
 
-  others_are : left_of leaving line ≡ map row_at (staying leaves count)
-  others_are = kept_rows (λ row. not (leaving row)) (λ i. not (get_or leaves i false)) (λ i h. ap not (says.says i h))
+    module _ (line : List Row) (leaving : Row → Bool) (long : length line ≡ count) (says : Says leaving line leaves) where
+      marks_are : take count leaves ≡ map leaving line
+      marks_are = marks_of long says
 
-  others_count : length (staying leaves count) ≡ length (left_of leaving line)
-  others_count = sym (ap length others_are ∙ length-map (staying leaves count) row_at)
+      kept_count : kept ≡ length (left_of leaving line)
+      kept_count =
+          let most = packed.at_most in
+          let wide = packed.long in
+          sym (length-take-le kept middle (omega arith))
+          ∙ ap length (packed.front ∙ ap (λ l. by_mark not l (take count old)) marks_are)
+          ∙ marked_long not leaving line (take count old) (length-take-le count old room ∙ sym long)
 
-  others_few : length (left_of leaving line) ≤ count
-  others_few = omega (arith, others_count, staying_few leaves count)
+      column_left :
+          (figure : Row → A) {blank : A} → figure no_row ≡ blank → old ≡ column figure line →
+          put_mid kept (count - kept) middle (replicate (count - kept) blank) ≡ column figure (left_of leaving line)
+      column_left figure {blank} none is =
+          let most = packed.at_most in
+          let left = left_of leaving line in
+          let parts_of : (line : List Row) → column figure line ≡ map figure line ++ replicate (spans_room - length line) blank =
+          λ line. rw none at (column_parts figure line)
+          in
+          let parts : old ≡ map figure line ++ replicate (spans_room - count) blank =
+          is ∙ parts_of line ∙ ap (λ n. map figure line ++ replicate (spans_room - n) blank) long
+          in
+          let held : length (map figure line) ≡ count = length-map line figure ∙ long in
+          let past : kept + (count - kept) ≡ count = omega arith in
+          let rest : (count - kept) + (spans_room - count) ≡ spans_room - length left = omega (arith, kept_count) in
+          let front : take kept middle ≡ map figure left =
+          packed.front
+          ∙ ap (λ l. by_mark not l (take count old)) marks_are
+          ∙ ap (λ l. by_mark not (map leaving line) l) (ap (take count) parts ∙ take_at (map figure line) (replicate (spans_room - count) blank) count held)
+          ∙ marked_rows not leaving figure line
+          in
+          let behind : drop (count - kept) (drop kept middle) ≡ replicate (spans_room - count) blank =
+          drop-drop (count - kept) kept middle
+          ∙ ap (λ n. drop n middle) past
+          ∙ packed.behind
+          ∙ ap (drop count) parts
+          ∙ drop_at (map figure line) (replicate (spans_room - count) blank) count held
+          in
+          rw (front, behind, replicate-append-replicate, rest) (sym (parts_of left))
 
-  module _
-      {A : Type 0} (figure : Row → A) {blank : A} (none : figure no_row ≡ blank) {old middle new : List A} {kept : ℕ}
-      (packed : PackedIs old leaves count middle kept) (cleared : ClearedIs middle kept count blank new) (is : old ≡ column figure line) where
-    stood : (k : ℕ) → get_or old k blank ≡ figure (row_at k)
-    stood k = ap (λ l. get_or l k blank) is ∙ column_past figure none line k
-
-    remaining : (k : ℕ) → get_or new k blank ≡ figure (get_or (left_of leaving line) k no_row)
-    remaining k =
-        let count_is = packed.count_is in
-        let past : length (left_of leaving line) ≤ k → figure (get_or (left_of leaving line) k no_row) ≡ blank =
-        λ out. ap figure (get_or-eq_default (left_of leaving line) no_row out) ∙ none
-        in
-        by_less
-        k
-        kept
-        (λ less.
-        cleared.before k blank less
-        ∙ packed.front k blank (omega arith)
-        ∙ stood (get_or (staying leaves count) k 0)
-        ∙ ap figure (sym (ap (λ l. get_or l k no_row) others_are ∙ get_or-map row_at (staying leaves count) k 0 no_row (omega arith))))
-        (λ most.
-        by_less
-        k
-        count
-        (λ less. cleared.blanks k blank most less ∙ sym (past (omega (arith, others_count))))
-        (λ out.
-        cleared.after k blank out
-        ∙ packed.after k blank out
-        ∙ stood k
-        ∙ ap figure (get_or-eq_default line no_row (omega arith))
-        ∙ none
-        ∙ sym (past (omega (arith, others_count)))))
-
-    column_left : count ≤ row_limit → length old ≡ spans_room → new ≡ column figure (left_of leaving line)
-    column_left few wide =
-        column_is figure none (left_of leaving line) (omega (arith, others_few)) (cleared.long ∙ packed.long ∙ wide) remaining
-
-module _ {A : Type 0} {old : List A} {leaves : List Bool} {from count : ℕ} (asked : AskKeep old leaves from count) where
-  pub clear_asked : {new : List A} {kept : ℕ} → PackedIs old leaves count new kept → AskClear new kept count
-  clear_asked packed = let long = packed.long in record { within = packed_few packed; room = let room = asked.room in omega arith }
-
-  pub kept_is :
-      {middle new : List A} {kept : ℕ} {blank : A} → PackedIs old leaves count middle kept → ClearedIs middle kept count blank new →
-      KeptIs old leaves count blank new kept
-  kept_is packed cleared = record {
-    is =
-        λ line leaving figure long says none is.
-        let few = asked.few in
-        column_left line leaving long says figure none packed cleared is few (ap length is ∙ column_long figure line (omega arith));
-    count_is = λ line leaving long says. packed.count_is ∙ others_count line leaving long says;
-  }
+    pub kept_is :
+        (items : List A) {i : ℕ} {blank : A} → length items ≡ length part → ((k : ℕ) (d : A) → k < i → get_or items k d ≡ blank) → length part ≤ i →
+        KeptIs old leaves count blank (put_mid kept (count - kept) middle items) kept
+    kept_is items {i} {blank} same written all = record {
+      long = same_len_mid kept (count - kept) middle items same ∙ packed.long;
+      at_most = packed.at_most;
+      is = λ line leaving figure long says none is. rw (blanks_are items i blank same written all) (column_left line leaving long says figure none is);
+      count_is = kept_count;
+    }

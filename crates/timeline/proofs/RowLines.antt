@@ -2,7 +2,6 @@
 -- finds its place.
 use mathlib.Core.Path.{◌≡◌, refl, sym, ap, ◌∙◌, subst}
 use mathlib.Core.Logic.{◌⊎◌, inl, inr, ⊎_elim}
-use mathlib.Core.Bool.{Bool, true, false, cond}
 use mathlib.Core.List.Memᴰ
 use mathlib.Core.List.{List, [], ◌∷◌, ◌++◌, Memᴰ}
 use Prim.Native.Nat.{ℕ, zero, suc, ◌+◌, ◌≤◌, ◌<◌}
@@ -29,48 +28,35 @@ use Rattle.timeline.proofs.ColumnLaws.{column_long, column_at}
 insert_long : (row : Row) (line : List Row) → length (insert_row row line) ≡ suc (length line)
 unfolding insert_row
 insert_long row [] = refl
-insert_long row (other ∷ line) = go (ltb (row_begin row) (row_begin other)) (insert_long row line)
-  where
-    go :
-        (t : Bool) → length (insert_row row line) ≡ suc (length line) →
-        length (cond t (row ∷ other ∷ line) (other ∷ insert_row row line)) ≡ suc (suc (length line))
-    go true below = refl
-    go false below = ap suc below
+insert_long row (other ∷ line) = by_test (ltb (row_begin row) (row_begin other)) (λ e. rw e refl) (λ e. rw e (ap suc (insert_long row line)))
 
 insert_new : (row : Row) (line : List Row) → Memᴰ row (insert_row row line)
 unfolding insert_row
 insert_new row [] = Memᴰ.head refl
-insert_new row (other ∷ line) = go (ltb (row_begin row) (row_begin other)) (insert_new row line)
-  where
-    go : (t : Bool) → Memᴰ row (insert_row row line) → Memᴰ row (cond t (row ∷ other ∷ line) (other ∷ insert_row row line))
-    go true below = Memᴰ.head refl
-    go false below = Memᴰ.tail below
+insert_new row (other ∷ line) =
+    by_test (ltb (row_begin row) (row_begin other)) (λ e. rw e (Memᴰ.head refl)) (λ e. rw e (Memᴰ.tail (insert_new row line)))
 
 insert_old : (row : Row) {x : Row} (line : List Row) → Memᴰ x line → Memᴰ x (insert_row row line)
 unfolding insert_row
 insert_old row [] m = absurd (Memᴰ.not-nil m)
-insert_old row {x} (other ∷ line) m = go (ltb (row_begin row) (row_begin other)) (insert_old row line)
-  where
-    go :
-        (t : Bool) → (Memᴰ x line → Memᴰ x (insert_row row line)) →
-        Memᴰ x (cond t (row ∷ other ∷ line) (other ∷ insert_row row line))
-    go true below = Memᴰ.tail m
-    go false below = ⊎_elim (λ same. Memᴰ.head same) (λ k. Memᴰ.tail (below k)) (Memᴰ.cases_cons m)
+insert_old row {x} (other ∷ line) m =
+    by_test
+    (ltb (row_begin row) (row_begin other))
+    (λ e. rw e (Memᴰ.tail m))
+    (λ e. rw e (⊎_elim (λ same. Memᴰ.head same) (λ k. Memᴰ.tail (insert_old row line k)) (Memᴰ.cases_cons m)))
 
 insert_from : (row : Row) {x : Row} (line : List Row) → Memᴰ x (insert_row row line) → (x ≡ row) ⊎ Memᴰ x line
 unfolding insert_row
 insert_from row [] m = Memᴰ.cases_cons m
-insert_from row {x} (other ∷ line) m = go (ltb (row_begin row) (row_begin other)) m (insert_from row line)
-  where
-    go :
-        (t : Bool) → Memᴰ x (cond t (row ∷ other ∷ line) (other ∷ insert_row row line)) →
-        (Memᴰ x (insert_row row line) → (x ≡ row) ⊎ Memᴰ x line) → (x ≡ row) ⊎ Memᴰ x (other ∷ line)
-    go true n below = Memᴰ.cases_cons n
-    go false n below =
-        ⊎_elim
-        (λ same. inr (Memᴰ.head same))
-        (λ k. ⊎_elim (λ new. inl new) (λ old. inr (Memᴰ.tail old)) (below k))
-        (Memᴰ.cases_cons n)
+insert_from row {x} (other ∷ line) m =
+    by_test
+    (ltb (row_begin row) (row_begin other))
+    (λ e. Memᴰ.cases_cons (rw e at m))
+    (λ e.
+    ⊎_elim
+    (λ same. inr (Memᴰ.head same))
+    (λ k. ⊎_elim (λ new. inl new) (λ old. inr (Memᴰ.tail old)) (insert_from row line k))
+    (Memᴰ.cases_cons (rw e at m)))
 
 -- where it goes: behind those that begin no later, and before the next
 insert_there :
@@ -150,32 +136,27 @@ module _ (Related : Row → Row → Type 0) (turned : (a b : Row) → Related a 
   unfolding insert_row
   insert_ranged end rel = more (λ y m. absurd (Memᴰ.not-nil m)) end
   insert_ranged {row} (more {x = other} {xs = line} first rest) rel =
-      go (ltb (row_begin row) (row_begin other)) refl (insert_ranged rest (λ x m. rel x (Memᴰ.tail m)))
-    where
-      go :
-          (t : Bool) → ltb (row_begin row) (row_begin other) ≡ t → Pairwise (Ranged Related) (insert_row row line) →
-          Pairwise (Ranged Related) (cond t (row ∷ other ∷ line) (other ∷ insert_row row line))
-      go true e below =
-          let less = ltb-true (row_begin row) (row_begin other) e in
-          more
-          {x = row}
-          {xs = other ∷ line}
-          (λ y m. (
-            ⊎_elim (λ same. let begins = ap row_begin same in omega arith) (λ k. let later = (first y k).0 in omega arith) (Memᴰ.cases_cons m),
-            turned y row (rel y m),
-          ))
-          (more first rest)
-      go false e below =
-          let most = ltb-false (row_begin row) (row_begin other) e in
-          more
-          {x = other}
-          {xs = insert_row row line}
-          (λ y m.
-          ⊎_elim
-          (λ same. subst (Ranged Related other) (sym same) (most, rel other (Memᴰ.head refl)))
-          (λ k. first y k)
-          (insert_from row line m))
-          below
+      by_test
+      (ltb (row_begin row) (row_begin other))
+      (λ e.
+      let less = ltb-true (row_begin row) (row_begin other) e in
+      rw e
+      (more
+      {x = row}
+      {xs = other ∷ line}
+      (λ y m. (
+        ⊎_elim (λ same. let begins = ap row_begin same in omega arith) (λ k. let later = (first y k).0 in omega arith) (Memᴰ.cases_cons m),
+        turned y row (rel y m),
+      ))
+      (more first rest)))
+      (λ e.
+      let most = ltb-false (row_begin row) (row_begin other) e in
+      rw e
+      (more
+      {x = other}
+      {xs = insert_row row line}
+      (λ y m. ⊎_elim (λ same. rw same (most, rel other (Memᴰ.head refl))) (λ k. first y k) (insert_from row line m))
+      (insert_ranged rest (λ x m. rel x (Memᴰ.tail m)))))
 
   onto_ranged :
       {line rows : List Row} → Pairwise (Ranged Related) line → ((x y : Row) → Memᴰ x line → Memᴰ y rows → Related x y) → Pairwise Related rows →

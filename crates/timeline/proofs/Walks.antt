@@ -12,39 +12,44 @@ use Rattle.std.specs.List.Sorted.{IsPartitionedBy, IsPartitionPoint}
 use Rattle.std.proofs.lemmas.List.Sorted.{IsNonDecreasingBy-from_default, IsPartitionedBy-leb}
 use Rattle.rules.specs.Codes.{resource_bound}
 use Rattle.rules.proofs.Sequences.{by_less}
-use Rattle.timeline.specs.Timeline.{tick_room, AskFirst, FirstAfter, AskGap, Met, SpansPassed, GapIs, AskLeast}
+use Rattle.timeline.specs.Spans.{Spans}
+use Rattle.timeline.specs.Fields.{Within}
+use Rattle.timeline.specs.Timeline.{tick_room, EndsAscend, FirstAfter, AskGap, Met, SpansPassed, GapIs, AskLeast}
 
 -- Halving: the first so many ends ascend, and so those that pass the test stand before the others.
 
-module _ {ends : List ℕ} {count : ℕ} (asked : AskFirst ends count) (place : ℕ) where
-  long : length (take count ends) ≡ count
-  long = length-take-le count ends asked.long
+module _ {room : ℕ} {t : Spans} (within : Within room t) (ascend : EndsAscend t.ends t.count) (place : ℕ) where
+  abbrev first_ends : List ℕ
+  first_ends = take t.count t.ends
 
-  pub ends_parted : IsPartitionedBy (λ end. leb end place) (take count ends)
+  long : length first_ends ≡ t.count
+  long = length-take-le t.count t.ends (omega (arith, within.ends_long, within.fits))
+
+  pub ends_parted : IsPartitionedBy (λ end. leb end place) first_ends
   ends_parted =
       IsPartitionedBy-leb
       (λ end. end)
-      (take count ends)
+      first_ends
       place
       (IsNonDecreasingBy-from_default
       (λ end. end)
-      (take count ends)
+      first_ends
       0
-      (λ i k h within.
-      let below : k < count = omega (arith, long) in
-      omega (arith, get_or-take count ends i 0 (omega arith), get_or-take count ends k 0 below, asked.ascend i k h below)))
+      (λ i k h below.
+      let few : k < t.count = omega (arith, long) in
+      omega (arith, get_or-take t.count t.ends i 0 (omega arith), get_or-take t.count t.ends k 0 few, ascend i k h few)))
 
   pub first_is :
-      {r : ℕ} → r ≤ length (take count ends) → IsPartitionPoint (λ end. leb end place ≡ true) (λ end. leb end place ≡ false) (take count ends) r →
-      FirstAfter ends count place r
+      {r : ℕ} → r ≤ length first_ends → IsPartitionPoint (λ end. leb end place ≡ true) (λ end. leb end place ≡ false) first_ends r →
+      FirstAfter t.ends t.count place r
   first_is most point = record {
     at_most = omega (arith, long);
     before =
         λ i h.
-        omega (arith, long, get_or-take count ends i 0 (omega (arith, long)), leb-true _ place (point.0 i 0 (omega arith) h));
+        omega (arith, long, get_or-take t.count t.ends i 0 (omega (arith, long)), leb-true _ place (point.0 i 0 (omega arith) h));
     after =
         λ i low high.
-        omega (arith, get_or-take count ends i 0 high, leb-false _ place (point.1 i 0 low (omega (arith, long))));
+        omega (arith, get_or-take t.count t.ends i 0 high, leb-false _ place (point.1 i 0 low (omega (arith, long))));
   }
 
 -- Walking: the spans below `i` are passed, and the place so far leaves room for what is sought in a word.
@@ -55,7 +60,7 @@ pub record Walked (begins ends : List ℕ) (count first at len i place : ℕ) : 
   pub passed : SpansPassed begins ends first at len i place
   pub fits : place + len < 2 * (resource_bound * tick_room)
 
-module _ (begins ends : List ℕ) (count first at len : ℕ) (asked : AskGap begins ends count first at len) where
+module _ (begins ends : List ℕ) (count first at len : ℕ) (asked : AskGap ends count first at len) where
   pub walked_none : Walked begins ends count first at len first at
   walked_none = record {
     on = omega arith;
@@ -94,11 +99,9 @@ module _ (begins ends : List ℕ) (count first at len : ℕ) (asked : AskGap beg
 
 -- what a walk from the first span that ends after the place asks
 pub gap_asked :
-    (begins ends : List ℕ) (count code from len first : ℕ) → AskLeast begins ends count code from len →
-    FirstAfter ends count (code * tick_room + from) first → AskGap begins ends count first (code * tick_room + from) len
-gap_asked begins ends count code from len first asked after = record {
-  begins_long = asked.begins_long;
-  ends_long = asked.ends_long;
+    (ends : List ℕ) (count code from len first : ℕ) → AskLeast ends count code from len →
+    FirstAfter ends count (code * tick_room + from) first → AskGap ends count first (code * tick_room + from) len
+gap_asked ends count code from len first asked after = record {
   within = after.at_most;
   ascend = asked.ascend;
   after = after.after;

@@ -1,4 +1,6 @@
 -- What the timeline's contracts cite.
+pub mod Spans
+pub mod Fields
 pub mod Timeline
 pub mod RowLine
 pub mod Grown
@@ -7,3 +9,4 @@ pub mod Packing
 pub mod TakenOut
 pub mod Beside
 pub mod Lines
+pub mod Bookings

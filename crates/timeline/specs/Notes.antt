@@ -3,7 +3,6 @@ use Rattle.std.specs.Prelude.{◌≡◌, Bool, List, ℕ, ◌≤◌, ◌<◌, le
 use Rattle.rules.specs.declared.Row.{Row}
 use Rattle.rules.specs.declared.Holder.TheVariants.{TaskOn}
 use Rattle.rules.specs.Sequences.{keep}
-use Rattle.rules.specs.Words.{row_limit}
 use Rattle.rules.specs.Placing.{costs}
 use Rattle.rules.specs.Bounds.{largest_cost}
 use Rattle.timeline.specs.declared.notes.Note.{Note}
@@ -14,7 +13,6 @@ no_note = record { holder = TaskOn 0 0; cost = 0; last = 0 }
 
 pub record AskCosts (notes : List Note) (count : ℕ) : Type 0 where
   pub room : count ≤ length notes
-  pub few : count ≤ row_limit
   pub costs_fit : (i : ℕ) → i < count → (get_or notes i no_note).cost ≤ largest_cost
 
 -- whatever rows they are noted of, and whichever leave

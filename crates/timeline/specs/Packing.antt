@@ -1,25 +1,16 @@
--- Between functions: what the two passes of `keep_staying` give and the second asks, by the entries of a column.
-use Rattle.std.specs.Prelude.{◌≡◌, Bool, false, not, List, ℕ, ◌≤◌, ◌<◌, length, get_or}
-use Rattle.rules.specs.Sequences.{keep, numbers}
+-- Between functions: the entries that stay of a column, and what the pass of `keep_staying` gives.
+use Rattle.std.specs.Prelude.{◌≡◌, Bool, not, List, [], ◌∷◌, ℕ, ◌≤◌, length, take, drop}
+use Rattle.rules.specs.Sequences.{cons_if}
 
--- the indices below a count of those that stay
-abbrev pub staying : List Bool → ℕ → List ℕ
-staying leaves count = keep (λ i. not (get_or leaves i false)) (numbers 0 count)
+-- the entries beside whose mark the test is passed
+abbrev pub by_mark : {A : Type 0} → (Bool → Bool) → List Bool → List A → List A
+by_mark p [] values = []
+by_mark p (mark ∷ marks) [] = []
+by_mark p (mark ∷ marks) (value ∷ values) = cons_if (p mark) value (by_mark p marks values)
 
 -- Of the first so many entries those that stay stand at the front, in their order. From the count on all are as before.
 pub record PackedIs {A : Type 0} (old : List A) (leaves : List Bool) (count : ℕ) (new : List A) (r : ℕ) : Type 0 where
   pub long : length new ≡ length old
-  pub front : (k : ℕ) (d : A) → k < length (staying leaves count) → get_or new k d ≡ get_or old (get_or (staying leaves count) k 0) d
-  pub after : (k : ℕ) (d : A) → count ≤ k → get_or new k d ≡ get_or old k d
-  pub count_is : r ≡ length (staying leaves count)
-
--- From an index on up to a count every entry is blank, and the others are as before.
-pub record ClearedIs {A : Type 0} (old : List A) (from count : ℕ) (blank : A) (new : List A) : Type 0 where
-  pub long : length new ≡ length old
-  pub before : (k : ℕ) (d : A) → k < from → get_or new k d ≡ get_or old k d
-  pub blanks : (k : ℕ) (d : A) → from ≤ k → k < count → get_or new k d ≡ blank
-  pub after : (k : ℕ) (d : A) → count ≤ k → get_or new k d ≡ get_or old k d
-
-pub record AskClear {A : Type 0} (values : List A) (from count : ℕ) : Type 0 where
-  pub within : from ≤ count
-  pub room : count ≤ length values
+  pub at_most : r ≤ count
+  pub front : take r new ≡ by_mark not (take count leaves) (take count old)
+  pub behind : drop count new ≡ drop count old

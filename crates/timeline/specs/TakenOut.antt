@@ -2,7 +2,6 @@
 use Rattle.std.specs.Prelude.{◌≡◌, Bool, false, not, List, ℕ, ◌≤◌, ◌<◌, length, get_or}
 use Rattle.rules.specs.declared.Row.{Row}
 use Rattle.rules.specs.Sequences.{keep}
-use Rattle.rules.specs.Words.{row_limit}
 use Rattle.rules.specs.Placing.{no_row}
 use Rattle.timeline.specs.RowLine.{column, Says}
 
@@ -11,21 +10,14 @@ pub record FirstLeaving (leaves : List Bool) (count r : ℕ) : Type 0 where
   pub at_most : r ≤ count
   pub none_before : (i : ℕ) → i < r → get_or leaves i false ≡ false
 
-abbrev pub AskLeaving : (count : ℕ) → Type 0
-AskLeaving count = count ≤ row_limit
-
--- a column of so many rows, of which none before an index leaves
-pub record AskKeep {A : Type 0} (values : List A) (leaves : List Bool) (from count : ℕ) : Type 0 where
-  pub room : count ≤ length values
-  pub few : count ≤ row_limit
-  pub first : FirstLeaving leaves count from
-
 -- the rows that stay
 abbrev pub left_of : (leaving : Row → Bool) → List Row → List Row
 left_of leaving line = keep (λ row. not (leaving row)) line
 
 -- whatever rows it is a column of, and whichever leave: what is left is the column of the others
 pub record KeptIs {A : Type 0} (old : List A) (leaves : List Bool) (count : ℕ) (blank : A) (new : List A) (r : ℕ) : Type 0 where
+  pub long : length new ≡ length old
+  pub at_most : r ≤ count
   pub is :
       (line : List Row) (leaving : Row → Bool) (figure : Row → A) → length line ≡ count → Says leaving line leaves → figure no_row ≡ blank →
       old ≡ column figure line → new ≡ column figure (left_of leaving line)

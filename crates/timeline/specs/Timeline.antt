@@ -51,9 +51,8 @@ pub record Drawn (held : List Hold) (begins ends : List ℕ) (count : ℕ) : Typ
 
 -- Halving.
 
-pub record AskFirst (ends : List ℕ) (count : ℕ) : Type 0 where
-  pub long : count ≤ length ends
-  pub ascend : (i k : ℕ) → i ≤ k → k < count → get_or ends i 0 ≤ get_or ends k 0
+abbrev pub EndsAscend : (ends : List ℕ) (count : ℕ) → Type 0
+EndsAscend ends count = (i k : ℕ) → i ≤ k → k < count → get_or ends i 0 ≤ get_or ends k 0
 
 -- those before it end at or before the place, and it ends after it
 pub record FirstAfter (ends : List ℕ) (count at r : ℕ) : Type 0 where
@@ -63,11 +62,9 @@ pub record FirstAfter (ends : List ℕ) (count at r : ℕ) : Type 0 where
 
 -- Walking.
 
-pub record AskGap (begins ends : List ℕ) (count first at len : ℕ) : Type 0 where
-  pub begins_long : count ≤ length begins
-  pub ends_long : count ≤ length ends
+pub record AskGap (ends : List ℕ) (count first at len : ℕ) : Type 0 where
   pub within : first ≤ count
-  pub ascend : (i k : ℕ) → i ≤ k → k < count → get_or ends i 0 ≤ get_or ends k 0
+  pub ascend : EndsAscend ends count
   pub after : (i : ℕ) → first ≤ i → i < count → at < get_or ends i 0
   -- every place reached, and so many ticks on, fits a word
   pub at_fits : at + len < 2 * (resource_bound * tick_room)
@@ -95,10 +92,8 @@ pub record GapIs (begins ends : List ℕ) (count first at len r : ℕ) : Type 0 
 
 -- The search.
 
-pub record AskLeast (begins ends : List ℕ) (count code from len : ℕ) : Type 0 where
-  pub begins_long : count ≤ length begins
-  pub ends_long : count ≤ length ends
-  pub ascend : (i k : ℕ) → i ≤ k → k < count → get_or ends i 0 ≤ get_or ends k 0
+pub record AskLeast (ends : List ℕ) (count code from len : ℕ) : Type 0 where
+  pub ascend : EndsAscend ends count
   pub ends_below : (i : ℕ) → i < count → get_or ends i 0 < resource_bound * tick_room
   pub code_below : code < resource_bound
   pub from_at_most : from ≤ tick_limit

@@ -1,10 +1,10 @@
 // Columns, of one value for each span: a value put in or taken out at an index, and a column without those that leave.
-ghost use Rattle.std.specs.Prelude.{◌≡◌};
+ghost use Rattle.std.specs.Prelude.{◌≤◌, length};
 ghost use Rattle.timeline.specs.RowLine.{AskInsert, InsertedAt, AskRemoveAt, RemovedAt};
-ghost use Rattle.timeline.specs.TakenOut.{AskLeaving, FirstLeaving, AskKeep, KeptIs};
-ghost use Rattle.timeline.specs.Packing.{PackedIs, AskClear, ClearedIs};
+ghost use Rattle.timeline.specs.TakenOut.{KeptIs};
+ghost use Rattle.timeline.specs.Packing.{PackedIs};
 
-use rules::ROWS;
+use crate::leaving::Leaving;
 
 // Puts a value at an index of the first so many, and those from there on one place further.
 pub fn insert_at<T: Copy>(values: &mut [T], count: usize, at: usize, value: T)
@@ -25,25 +25,14 @@ pub fn remove_at<T: Copy>(values: &mut [T], count: usize, at: usize, blank: T)
     values[count - 1] = blank;
 }
 
-// The index of the first that leaves, or the count.
-pub fn first_leaving(leaves: &[bool; ROWS], count: usize) -> usize
-    requires { AskLeaving count }
-    ensures { FirstLeaving leaves.now count result }
+// Those that stay go behind each other, from the first that leaves on. Answers how many they are. By index, since one column is read and written.
+fn pack<T: Copy>(values: &mut [T], leaving: &Leaving) -> usize
+    requires { leaving.now.count ≤ length values.old }
+    ensures { PackedIs values.old leaving.now.marks leaving.now.count values.new result }
 {
-    leaves[..count]
-        .iter()
-        .position(|leaves| *leaves)
-        .unwrap_or(count)
-}
-
-// Those that stay go behind each other, from the first that leaves on. Answers how many they are.
-fn pack<T: Copy>(values: &mut [T], leaves: &[bool; ROWS], from: usize, count: usize) -> usize
-    requires { AskKeep values.old leaves.now from count }
-    ensures { PackedIs values.old leaves.now count values.new result }
-{
-    let mut kept = from;
-    for i in from..count {
-        if !leaves[i] {
+    let mut kept = leaving.from;
+    for i in leaving.from..leaving.count {
+        if !leaving.marks[i] {
             values[kept] = values[i];
             kept += 1;
         }
@@ -51,28 +40,15 @@ fn pack<T: Copy>(values: &mut [T], leaves: &[bool; ROWS], from: usize, count: us
     kept
 }
 
-// Blanks from an index on up to a count.
-fn clear<T: Copy>(values: &mut [T], from: usize, count: usize, blank: T)
-    requires { AskClear values.old from count }
-    ensures { ClearedIs values.old from count blank values.new }
+// The column of those that stay, and blanks past them. Answers how many stay.
+pub fn keep_staying<T: Copy>(values: &mut [T], leaving: &Leaving, blank: T) -> usize
+    requires { leaving.now.count ≤ length values.old }
+    ensures { KeptIs values.old leaving.now.marks leaving.now.count blank values.new result }
 {
-    for i in from..count {
-        values[i] = blank;
+    let kept = pack(values, leaving);
+    // `fill` asks that a copy of the blank can't fail, which no clause says of a type that is `Copy`.
+    for value in &mut values[kept..leaving.count] {
+        *value = blank;
     }
-}
-
-// The column of those that stay, and blanks past them. None leaves before the index given. Answers how many stay.
-pub fn keep_staying<T: Copy>(
-    values: &mut [T],
-    leaves: &[bool; ROWS],
-    from: usize,
-    count: usize,
-    blank: T,
-) -> usize
-    requires { AskKeep values.old leaves.now from count }
-    ensures { KeptIs values.old leaves.now count blank values.new result }
-{
-    let kept = pack(values, leaves, from, count);
-    clear(values, kept, count, blank);
     kept
 }

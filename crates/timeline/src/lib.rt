@@ -1,7 +1,9 @@
 // The timeline: every span that is held, of all machines and links on one ascending number line, and what is noted of each.
 #![tactic(auto)]
 
+pub mod bookings;
 pub mod columns;
+pub mod leaving;
 pub mod line;
 pub mod notes;
 

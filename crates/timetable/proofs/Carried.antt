@@ -1,24 +1,26 @@
 -- What the columns of a timetable say of the rows on its line: the number and the start of each.
 use mathlib.Core.Path.{◌≡◌, refl, sym, ap, ◌∙◌}
-use mathlib.Core.Bool.{true, false}
+use mathlib.Core.Bool.{Bool, true, false}
 use mathlib.Core.List.{List, map, map-append}
-use Prim.Native.Nat.{ℕ, ◌-◌, ◌%◌, ◌≤◌, ◌<◌}
+use Prim.Native.Nat.{ℕ, ◌+◌, ◌-◌, ◌%◌, ◌≤◌, ◌<◌}
 use native.Mathlib.Nat.{mul-add-mod_self_right, mod-eq_of_lt}
 use native.Mathlib.Omega.{arith}
 use lib.Dec.{eqb}
 use lib.ListN.{length, get_or, take, replicate, length-map}
 use lib.Seq.{take_at}
 use borrow.Author.Tests.{eqb-true, eq-eqb, le-leb, lt-leb}
-use Rattle.std.specs.List.{list_any}
+use Rattle.std.specs.Bool.{MatchBool}
+use Rattle.std.specs.List.{list_any, range_with_len, AllWithin, HoldsAt}
+use Rattle.std.proofs.lemmas.List.FromFn.{length-range_with_len, get_or-range_with_len}
 use Rattle.rules.specs.declared.Row.{Row}
 use Rattle.rules.specs.Words.{of_job}
 use Rattle.rules.specs.Placing.{no_row}
-use Rattle.rules.proofs.Sequences.{by_test, any_mem, none_any, mem_get_or, get_or_mem, and_both}
+use Rattle.rules.proofs.Sequences.{by_test, by_less, any_mem, none_any, mem_get_or, get_or_mem, and_both}
 use Rattle.timeline.specs.Timeline.{tick_room}
 use Rattle.timeline.specs.RowLine.{spans_room, row_begin, column}
 use Rattle.timeline.proofs.ColumnLaws.{column_at}
 use Rattle.timetable.specs.declared.Timetable.{Timetable}
-use Rattle.timetable.specs.Marks.{JobsOf, HeldIs, BegunIs}
+use Rattle.timetable.specs.Marks.{JobsOf, HeldIs, AskBegun, BegunIs}
 use Rattle.timetable.proofs.Lists.{any_mapped}
 use Rattle.timetable.proofs.Steps.{begun}
 
@@ -48,20 +50,25 @@ held_is jobs count job line n is =
 
 -- Whether one that carries it has begun.
 
-module _ (t : Timetable) (job i : ℕ) where
-  pub begun_here : i < t.line.count → get_or t.jobs i 0 ≡ job → get_or t.line.begins i 0 % tick_room ≤ t.clock → BegunIs t job true
-  begun_here more here sooner line n starts jobs_are begins_are =
+module _ (t : Timetable) (job : ℕ) where
+  abbrev pub HasBegun : ℕ → Type 0
+  HasBegun i = (get_or t.jobs i 0 ≡ job) × (get_or t.line.begins i 0 % tick_room ≤ t.clock)
+
+  abbrev pub NotBegun : ℕ → Type 0
+  NotBegun i = get_or t.jobs i 0 ≡ job → t.clock < get_or t.line.begins i 0 % tick_room
+
+  begun_here : (i : ℕ) → i < t.line.count → HasBegun i → BegunIs t job true
+  begun_here i more here line n starts jobs_are begins_are =
       let there : i < length line = omega arith in
       let soon = start_at line begins_are i there (starts i more) in
       sym
       (any_mem
       (begun job t.clock)
       (get_or_mem line i no_row there)
-      (and_both _ _ (eq-eqb _ job (sym (job_at line jobs_are i there) ∙ here)) (le-leb _ t.clock (omega arith))))
+      (and_both _ _ (eq-eqb _ job (sym (job_at line jobs_are i there) ∙ here.0)) (le-leb _ t.clock (omega arith))))
 
-  pub begun_all :
-      t.line.count ≤ i → ((k : ℕ) → k < i → get_or t.jobs k 0 ≡ job → t.clock < get_or t.line.begins k 0 % tick_room) → BegunIs t job false
-  begun_all all later line n starts jobs_are begins_are =
+  begun_all : ((k : ℕ) → k < t.line.count → NotBegun k) → BegunIs t job false
+  begun_all later line n starts jobs_are begins_are =
       sym
       (none_any
       (begun job t.clock)
@@ -75,3 +82,27 @@ module _ (t : Timetable) (job i : ℕ) where
       (of_job job row)
       (λ e. let less = later place.0 (omega arith) (job_is ∙ eqb-true row.job job e) in rw e (lt-leb row.start t.clock (omega arith)))
       (λ e. rw e refl)))
+
+  -- of the rows from an index on, before which none carries it
+  pub begun_from :
+      {from count : ℕ} {r : Bool} → AskBegun t job from → count ≡ t.line.count →
+      (let at = range_with_len from (count - from) in
+      MatchBool r ((k : ℕ) × (k < length at) × HoldsAt HasBegun at k) (AllWithin NotBegun at 0 (length at))) →
+      BegunIs t job r
+  begun_from {from} {count} {r = true} ask same found =
+      let some = length-range_with_len from (count - from) in
+      let less : found.0 < count - from = let h = found.1 in omega arith in
+      begun_here (from + found.0) (omega arith) (rw (get_or-range_with_len from (count - from) found.0 0 less) at (found.2 0))
+  begun_from {from} {count} {r = false} ask same none =
+      let some = length-range_with_len from (count - from) in
+      begun_all
+      (λ k h here.
+      by_less
+      k
+      from
+      (λ l. absurd (ask k l here))
+      (λ l.
+      let less : k - from < count - from = omega arith in
+      let place : from + (k - from) ≡ k = omega arith in
+      let later = none (k - from) 0 (omega arith) (omega arith) in
+      (rw (get_or-range_with_len from (count - from) (k - from) 0 less, place) at later) here))

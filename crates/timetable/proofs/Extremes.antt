@@ -3,21 +3,20 @@ use mathlib.Core.Path.{◌≡◌, refl, ap}
 use mathlib.Core.List.{List, [], ◌∷◌, map, Memᴰ}
 use Prim.Native.Nat.{ℕ, ◌≤◌, min}
 use native.Mathlib.Omega.{arith}
+use Rattle.std.specs.List.{fold}
 use Rattle.timetable.specs.Derived.{least_of}
 
 module _ {A : Type 0} (none : ℕ) (figure : A → ℕ) where
-  pub least_nil : least_of none (map figure []) ≡ none
-  unfolding least_of
-  least_nil = refl
-
-  pub least_cons : (x : A) (l : List A) → least_of none (map figure (x ∷ l)) ≡ min (figure x) (least_of none (map figure l))
-  unfolding least_of
-  least_cons x l = refl
-
   pub least_none : (l : List A) → least_of none (map figure l) ≤ none
   unfolding least_of
   least_none [] = omega arith
   least_none (x ∷ l) = omega (arith, least_none l)
+
+  -- found one by one, from a number that is at most the bound
+  pub least_fold : (l : List A) {n : ℕ} → n ≤ none → fold (λ least x. min least (figure x)) n l ≡ min n (least_of none (map figure l))
+  unfolding least_of
+  least_fold [] most = omega arith
+  least_fold (x ∷ l) {n} most = let below = least_fold l {n = min n (figure x)} (omega arith) in omega arith
 
   pub least_low : {x : A} {l : List A} → Memᴰ x l → least_of none (map figure l) ≤ figure x
   unfolding least_of

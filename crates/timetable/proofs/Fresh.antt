@@ -3,7 +3,10 @@ use mathlib.Core.Path.{◌≡◌, refl}
 use mathlib.Core.List.{[]}
 use lib.ListN.{replicate}
 use Rattle.rules.specs.declared.Row.{Row}
+use Rattle.rules.specs.declared.Holder.TheVariants.{TaskOn}
+use Rattle.rules.specs.declared.answers.Admission.{Admission}
 use Rattle.rules.specs.Placing.{no_row}
+use Rattle.timeline.specs.declared.notes.Note.{Note}
 use Rattle.timeline.specs.Lines.{none_on}
 use Rattle.timeline.specs.Notes.{no_note}
 use Rattle.timeline.specs.RowLine.{spans_room, row_begin, row_end, line_onto, column, note_of}
@@ -13,11 +16,19 @@ use Rattle.timetable.specs.Derived.{never, last_finish, least_of, most_of}
 use Rattle.timetable.specs.Timetables.{timetable_fresh}
 use Rattle.timetable.proofs.Lists.{map_replicate}
 
+-- What the defaults say.
+
+pub blank_note : {note : Note} → (note.holder ≡ TaskOn 0 0) × ((note.cost ≡ 0) × (note.last ≡ 0)) → note ≡ no_note
+blank_note is = λ i. record { holder = is.0 i; cost = is.1.0 i; last = is.1.1 i }
+
+pub nothing : {admission : Admission} → (admission.cost ≡ 0) × (admission.rows ≡ 0) → admission ≡ record { cost = 0; rows = 0 }
+nothing is = λ i. record { cost = is.0 i; rows = is.1 i }
+
 -- no rows: blanks alone
 column_none : {A : Type 0} (figure : Row → A) {blank : A} → figure no_row ≡ blank → replicate spans_room blank ≡ column figure []
 column_none figure is = rw (map_replicate figure spans_room no_row, is) refl
 
-abbrev pub blank_timetable : Timetable
+abbrev blank_timetable : Timetable
 blank_timetable = record {
   line = none_on spans_room;
   jobs = replicate spans_room 0;

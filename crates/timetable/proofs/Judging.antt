@@ -2,11 +2,11 @@
 use mathlib.Core.Path.{◌≡◌, refl, sym, ap, subst, ◌∙◌}
 use mathlib.Core.Bool.{Bool, true, false}
 use mathlib.Core.List.{List}
-use Prim.Native.Nat.{ℕ, ◌≤◌, ◌<◌}
+use Prim.Native.Nat.{ℕ, ◌<◌}
 use native.Mathlib.Omega.{arith}
 use lib.ListN.{get_or}
 use borrow.Author.Tests.{eq-eqb, ne_eqb}
-use Rattle.std.specs.Prelude.{Some, None, Ok, Err}
+use Rattle.std.specs.Prelude.{Some, None, Result, Ok, Err}
 use Rattle.rules.specs.declared.Row.{Row}
 use Rattle.rules.specs.declared.Setup.{Setup}
 use Rattle.rules.specs.declared.answers.Refusal.{Refusal}
@@ -72,15 +72,18 @@ module _ {s : Setup} {st : State} {t : Timetable} (is : TimetableOf s st t) (num
       (jobs_are is)
       (ap (λ x. x.line.begins) is.is))
 
+ok_same : {A E : Type 0} {x y : A} → ◌≡◌ {A = Result A E} (Ok x) (Ok y) → x ≡ y
+ok_same same = cc
+
 -- What is judged.
 module _ (t : Timetable) (number : ℕ) where
   refuses :
       (why : Refusal) → ((s : Setup) (st : State) → TimetableOf s st t → (step s st (withdraws number)).answer ≡ refused why) → WithdrawalIs t number (Err why)
   refuses why answers = record {
     refuses = λ other same s st is. answers s st is ∙ ap refused cc;
-    accepts = λ from same. absurd cc;
-    fits = λ from same. absurd cc;
-    place = λ from same. absurd cc;
+    accepts = λ job from same. absurd cc;
+    job_is = λ job from same. absurd cc;
+    place = λ job from same. absurd cc;
   }
 
   pub judged_past : largest_number < number → WithdrawalIs t number (Err R.NotHeld)
@@ -93,10 +96,10 @@ module _ (t : Timetable) (number : ℕ) where
     pub judged_begun : BegunIs t number true → WithdrawalIs t number (Err R.Begun)
     judged_begun begun = refuses R.Begun (λ s st is. withdraw_10 s st number (job_held is number place) (begun_is is number begun))
 
-    pub judged_free : BegunIs t number false → number ≤ largest_number → WithdrawalIs t number (Ok from)
-    judged_free free fits = record {
+    pub judged_free : BegunIs t number false → WithdrawalIs t number (Ok (number, from))
+    judged_free free = record {
       refuses = λ why same. absurd cc;
-      accepts = λ at same s st is. sym (withdraw_0 s st number (job_held is number place) (begun_is is number free));
-      fits = λ at same. fits;
-      place = λ at same. let there : from ≡ at = cc in subst (λ i. PlaceOf t.jobs t.line.count number (Some i)) there place;
+      accepts = λ job at same s st is. sym (withdraw_0 s st number (job_held is number place) (begun_is is number free));
+      job_is = λ job at same. sym (ap (λ x. x.0) (ok_same same));
+      place = λ job at same. let there = ap (λ x. x.1) (ok_same same) in subst (λ i. PlaceOf t.jobs t.line.count number (Some i)) there place;
     }

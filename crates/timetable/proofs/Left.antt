@@ -2,10 +2,9 @@
 use mathlib.Core.Path.{◌≡◌, refl, sym, ap, ap₂, ◌∙◌}
 use mathlib.Core.Bool.{Bool}
 use mathlib.Core.List.{List}
-use Prim.Native.Nat.{ℕ, ◌≤◌, ◌<◌, min}
+use Prim.Native.Nat.{ℕ, ◌<◌, min}
 use native.Mathlib.Omega.{arith}
-use lib.ListN.{length, get_or}
-use borrow.Author.Tests.{ne_eqb}
+use lib.ListN.{get_or}
 use Rattle.std.specs.Prelude.{Some, Ok}
 use Rattle.rules.specs.declared.Setup.{Setup}
 use Rattle.rules.specs.Sequences.{keep}
@@ -16,7 +15,7 @@ use Rattle.rules.specs.Refusals.{step, withdraws, advances, refusal}
 use Rattle.rules.proofs.Bounds.{advanced_in_range}
 use Rattle.timeline.specs.RowLine.{line_of, Says}
 use Rattle.timeline.specs.Notes.{no_note}
-use Rattle.timeline.specs.TakenOut.{FirstLeaving}
+use Rattle.timeline.specs.declared.leaving.Leaving.{Leaving}
 use Rattle.timeline.proofs.RowLines.{line_long}
 use Rattle.timetable.specs.declared.Timetable.{Timetable}
 use Rattle.timetable.specs.Derived.{last_finish, soonest_end}
@@ -24,17 +23,16 @@ use Rattle.timetable.specs.Marks.{PlaceOf, RowsOfIs, RowsEndedIs, SoonestIs, Soo
 use Rattle.timetable.specs.Timetables.{TimetableOf, Goes, WithdrawalIs, AdvancementIs, AskTakeOut, TakenOutIs}
 use Rattle.timetable.proofs.Steps.{withdraw_left, advance_left}
 use Rattle.timetable.proofs.Lines.{least_line}
-use Rattle.timetable.proofs.Carried.{job_at}
 use Rattle.timetable.proofs.Ends.{stay, ended_last, none_ended, soonest_without}
 use Rattle.timetable.proofs.Standing.{count_is, jobs_are, notes_are, note_at, few_held, goes}
 use Rattle.timetable.proofs.Judging.{job_there, job_held}
-use Rattle.timetable.proofs.Removed.{remove_none, whole_job, row_ended, whole_ended, taken_is, few_left}
+use Rattle.timetable.proofs.Removed.{remove_none, whole_job, row_ended, whole_ended, taken_is}
 
 -- Withdrawals.
 
-module _ {s : Setup} {st : State} {t : Timetable} (is : TimetableOf s st t) {number from : ℕ} (told : WithdrawalIs t number (Ok from)) where
+module _ {s : Setup} {st : State} {t : Timetable} (is : TimetableOf s st t) {number job from : ℕ} (told : WithdrawalIs t number (Ok (job, from))) where
   place : PlaceOf t.jobs t.line.count number (Some from)
-  place = told.place from refl
+  place = told.place job from refl
 
   pub stands : from < row_limit
   stands = omega (arith, place.below from refl, few_held is)
@@ -43,52 +41,42 @@ module _ {s : Setup} {st : State} {t : Timetable} (is : TimetableOf s st t) {num
   last_noted : (get_or t.notes from no_note).last ≡ last_finish st.rows number
   last_noted = ap (λ note. note.last) (note_at is from (place.below from refl)) ∙ ap (last_finish st.rows) (job_there is number place)
 
-  module _ {leaves : List Bool} (of : RowsOfIs t.jobs t.line.count number leaves) where
-    job_says : Says (of_job number) (line_of st.rows) leaves
-    job_says = of (line_of st.rows) (count_is is) (jobs_are is)
+  job_says : {leaves : List Bool} → RowsOfIs t.jobs t.line.count job leaves → Says (of_job number) (line_of st.rows) leaves
+  job_says of = rw (told.job_is job from refl) at of (line_of st.rows) (count_is is) (jobs_are is)
 
-    pub withdraw_asked : AskTakeOut t leaves from
-    withdraw_asked = record {
-      ask = record { setup = s; state = st; is = is };
-      first = record {
-        at_most = omega (arith, place.below from refl);
-        none_before =
-            λ i h.
-            let there : i < length (line_of st.rows) = omega (arith, place.below from refl, count_is is) in
-            job_says.says i there ∙ ne_eqb _ number (λ same. place.none_before from refl i h (job_at (line_of st.rows) (jobs_are is) i there ∙ same));
-      };
-      leaving = of_job number;
-      says = job_says;
-    }
+  pub withdraw_asked : {leaving : Leaving} → RowsOfIs t.jobs t.line.count job leaving.marks → leaving.count ≡ t.line.count → AskTakeOut t leaving
+  withdraw_asked of same = record {
+    ask = record { setup = s; state = st; is = is };
+    count_is = same;
+    leaves = of_job number;
+    says = job_says of;
+  }
 
-    module _ {t' : Timetable} (taken : TakenOutIs t leaves t') where
-      pub withdraw_few : t'.line.count ≤ row_limit
-      withdraw_few = few_left is (whole_job number st.rows) job_says taken
-
-      pub withdraw_goes :
-          {soonest : ℕ} → SoonestLeft t'.notes t'.line.count t'.soonest (get_or t.notes from no_note).last soonest →
-          Goes s st (withdraws number) (record t' { soonest = soonest }) (Ok (record { cost = 0; rows = 0 }))
-      unfolding withdraw remove
-      withdraw_goes found =
-          let accepts = told.accepts from refl s st is in
-          let others = keep (stay (of_job number)) st.rows in
-          let left = taken_is is (whole_job number st.rows) job_says taken in
-          let least = least_line _ (λ row. last_finish others row.job) others in
-          let soonest_is =
-          found
-          (line_of others)
-          (last_finish others)
-          (line_long others ∙ sym (ap (λ x. x.line.count) left))
-          (ap (λ x. x.notes) left)
-          (ap (λ x. x.soonest) left ∙ soonest_without st.rows number (job_held is number place) ∙ ap₂ min (sym last_noted) (sym least))
-          ∙ least
-          in
-          goes is (withdraws number) accepts (withdraw_left s st number (sym accepts)) (λ i. record (left i) { soonest = soonest_is i })
+  pub withdraw_goes :
+      {leaves : List Bool} → RowsOfIs t.jobs t.line.count job leaves → {t' : Timetable} → TakenOutIs t leaves t' →
+      {soonest : ℕ} → SoonestLeft t'.notes t'.line.count t'.soonest (get_or t.notes from no_note).last soonest →
+      Goes s st (withdraws number) (record t' { soonest = soonest }) (Ok (record { cost = 0; rows = 0 }))
+  unfolding withdraw remove
+  withdraw_goes of taken found =
+      let accepts = told.accepts job from refl s st is in
+      let others = keep (stay (of_job number)) st.rows in
+      let left = taken_is is (whole_job number st.rows) (job_says of) taken in
+      let least = least_line _ (λ row. last_finish others row.job) others in
+      let soonest_is =
+      found
+      (line_of others)
+      (last_finish others)
+      (line_long others ∙ sym (ap (λ x. x.line.count) left))
+      (ap (λ x. x.notes) left)
+      (ap (λ x. x.soonest) left ∙ soonest_without st.rows number (job_held is number place) ∙ ap₂ min (sym last_noted) (sym least))
+      ∙ least
+      in
+      goes is (withdraws number) accepts (withdraw_left s st number (sym accepts)) (λ i. record (left i) { soonest = soonest_is i })
 
 -- Clock moves.
 
 -- only the clock has moved
-abbrev pub at_tick : State → (tick : ℕ) → State
+abbrev at_tick : State → (tick : ℕ) → State
 at_tick st tick = with_calendar (with_clock tick st.calendar) st
 
 module _
@@ -121,33 +109,30 @@ module _
       (advance_left s st tick told_here ∙ remove_none (row_ended st.rows tick) (at_tick st tick) (none_ended st.rows tick sooner))
       moved.is
 
-  module _ {leaves : List Bool} (ended : RowsEndedIs t.notes t.line.count tick leaves) where
-    ended_says : Says (row_ended st.rows tick) (line_of st.rows) leaves
-    ended_says =
-        let says = ended (line_of st.rows) (last_finish st.rows) (count_is is) (notes_are is) in
-        record { long = says.long; says = λ k h. says.says k h ∙ ended_last st.rows (get_or (line_of st.rows) k no_row).job tick }
+  ended_says : {leaves : List Bool} → RowsEndedIs t.notes t.line.count tick leaves → Says (row_ended st.rows tick) (line_of st.rows) leaves
+  ended_says ended =
+      let says = ended (line_of st.rows) (last_finish st.rows) (count_is is) (notes_are is) in
+      record { long = says.long; says = λ k h. says.says k h ∙ ended_last st.rows (get_or (line_of st.rows) k no_row).job tick }
 
-    pub advance_asked : {from : ℕ} → FirstLeaving leaves t.line.count from → AskTakeOut (record t { clock = tick }) leaves from
-    advance_asked first = record {
-      ask = record { setup = s; state = at_tick st tick; is = moved };
-      first = first;
-      leaving = row_ended st.rows tick;
-      says = ended_says;
-    }
+  pub advance_asked :
+      {leaving : Leaving} → RowsEndedIs t.notes t.line.count tick leaving.marks → leaving.count ≡ t.line.count → AskTakeOut (record t { clock = tick }) leaving
+  advance_asked ended same = record {
+    ask = record { setup = s; state = at_tick st tick; is = moved };
+    count_is = same;
+    leaves = row_ended st.rows tick;
+    says = ended_says ended;
+  }
 
-    module _ {t' : Timetable} (taken : TakenOutIs (record t { clock = tick }) leaves t') where
-      pub advance_few : t'.line.count ≤ row_limit
-      advance_few = few_left moved (whole_ended st.rows tick) ended_says taken
-
-      pub advance_goes :
-          {soonest : ℕ} → SoonestIs t'.notes t'.line.count soonest →
-          Goes s st (advances tick) (record t' { soonest = soonest }) (Ok (record { cost = 0; rows = 0 }))
-      unfolding advance remove
-      advance_goes found =
-          let others = keep (stay (row_ended st.rows tick)) st.rows in
-          let left = taken_is moved (whole_ended st.rows tick) ended_says taken in
-          let soonest_is =
-          found (line_of others) (last_finish others) (line_long others ∙ sym (ap (λ x. x.line.count) left)) (ap (λ x. x.notes) left)
-          ∙ least_line _ (λ row. last_finish others row.job) others
-          in
-          goes is (advances tick) (sym told_here) (advance_left s st tick told_here) (λ i. record (left i) { soonest = soonest_is i })
+  pub advance_goes :
+      {leaves : List Bool} → RowsEndedIs t.notes t.line.count tick leaves → {t' : Timetable} → TakenOutIs (record t { clock = tick }) leaves t' →
+      {soonest : ℕ} → SoonestIs t'.notes t'.line.count soonest →
+      Goes s st (advances tick) (record t' { soonest = soonest }) (Ok (record { cost = 0; rows = 0 }))
+  unfolding advance remove
+  advance_goes ended taken found =
+      let others = keep (stay (row_ended st.rows tick)) st.rows in
+      let left = taken_is moved (whole_ended st.rows tick) (ended_says ended) taken in
+      let soonest_is =
+      found (line_of others) (last_finish others) (line_long others ∙ sym (ap (λ x. x.line.count) left)) (ap (λ x. x.notes) left)
+      ∙ least_line _ (λ row. last_finish others row.job) others
+      in
+      goes is (advances tick) (sym told_here) (advance_left s st tick told_here) (λ i. record (left i) { soonest = soonest_is i })

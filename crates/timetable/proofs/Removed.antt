@@ -1,4 +1,4 @@
--- Rows that leave a timetable: what it is asked for, that their cost is within the total, and that what is left of whole jobs' rows is the state's without them.
+-- Rows that leave a timetable: what functions are asked, that their cost is within the total, and that what is left of whole jobs is the state without them.
 use mathlib.Core.Path.{◌≡◌, refl, sym, ap, ◌∙◌}
 use mathlib.Core.Bool.{Bool, false, not}
 use mathlib.Core.List.{List, Memᴰ}
@@ -9,16 +9,17 @@ use lib.ListN.{length}
 use Rattle.rules.specs.declared.Row.{Row}
 use Rattle.rules.specs.declared.Setup.{Setup}
 use Rattle.rules.specs.Sequences.{keep}
-use Rattle.rules.specs.Words.{State, of_job, row_limit}
+use Rattle.rules.specs.Words.{State, of_job}
 use Rattle.rules.specs.Placing.{costs}
 use Rattle.rules.specs.Withdrawing.{remove, ended}
-use Rattle.rules.proofs.Sequences.{keep_all, keep_none, length_keep, sum_split}
-use Rattle.timeline.specs.declared.line.Timeline.{Timeline}
+use Rattle.rules.proofs.Sequences.{keep_all, keep_none, sum_split}
+use Rattle.timeline.specs.Spans.{Spans}
+use Rattle.timeline.specs.declared.leaving.Leaving.{Leaving}
 use Rattle.timeline.specs.declared.notes.Note.{Note}
-use Rattle.timeline.specs.RowLine.{spans_room, row_begin, row_end, line_of, column, notes_of, note_of, Says}
+use Rattle.timeline.specs.RowLine.{row_begin, row_end, line_of, column, notes_of, note_of, Says}
 use Rattle.timeline.specs.Notes.{no_note, AskCosts, CostIs}
 use Rattle.timeline.specs.TakenOut.{KeptIs}
-use Rattle.timeline.proofs.ColumnLaws.{column_long, begin_blank, end_blank, note_blank}
+use Rattle.timeline.proofs.ColumnLaws.{begin_blank, end_blank, note_blank}
 use Rattle.timeline.proofs.RowLines.{line_long}
 use Rattle.timeline.proofs.Keeping.{line_keep, line_costs}
 use Rattle.timetable.specs.declared.Timetable.{Timetable}
@@ -26,34 +27,32 @@ use Rattle.timetable.specs.Derived.{last_finish, soonest_end}
 use Rattle.timetable.specs.Marks.{WholeJobs}
 use Rattle.timetable.specs.Timetables.{timetable_of, TimetableOf, AskTakeOut, TakenOutIs}
 use Rattle.timetable.proofs.Ends.{stay, whole_by, notes_kept}
-use Rattle.timetable.proofs.Standing.{count_is, few_held, notes_are, no_last, row_there, note_at}
+use Rattle.timetable.proofs.Standing.{count_is, few_held, notes_are, notes_long, no_last, row_there, note_at}
 
 -- What the functions called are asked.
-module _ {t : Timetable} {leaves : List Bool} {from : ℕ} (ask : AskTakeOut t leaves from) where
+module _ {t : Timetable} {leaving : Leaving} (ask : AskTakeOut t leaving) where
   abbrev held : List Row
   held = ask.ask.state.rows
 
-  pub costs_asked : {count : ℕ} → count ≡ t.line.count → AskCosts t.notes count
-  costs_asked same =
+  pub costs_asked : AskCosts t.notes leaving.count
+  costs_asked =
       let is = ask.ask.is in
-      let few = few_held is in
       rw
-      same
+      ask.count_is
       (record {
-        room = omega (arith, ap length (notes_are is), column_long (note_of (last_finish held)) (line_of held) (omega (arith, count_is is)), few);
-        few = few;
+        room = omega (arith, notes_long is, few_held is);
         costs_fit = λ i h. omega (arith, ap (λ note. note.cost) (note_at is i h), (is.bounded.rows _ (row_there is i h)).cost);
       })
 
   -- the rows that leave cost no more than all
-  pub cost_within : {count cost : ℕ} → count ≡ t.line.count → CostIs t.notes leaves count cost → cost ≤ t.total
-  cost_within same cost_is =
+  pub cost_within : {cost : ℕ} → CostIs t.notes leaving.marks leaving.count cost → cost ≤ t.total
+  cost_within cost_is =
       let is = ask.ask.is in
-      let gone = cost_is (line_of held) ask.leaving (last_finish held) (count_is is ∙ sym same) ask.says (notes_are is) in
+      let gone = cost_is (line_of held) ask.leaves (last_finish held) (count_is is ∙ sym ask.count_is) ask.says (notes_are is) in
       omega (
         arith,
         gone,
-        sum_split (λ row. row.cost) ask.leaving (line_of held),
+        sum_split (λ row. row.cost) ask.leaves (line_of held),
         line_costs held,
         is.bounded.total,
         ap (λ x. x.total) is.is,
@@ -61,9 +60,10 @@ module _ {t : Timetable} {leaves : List Bool} {from : ℕ} (ask : AskTakeOut t l
 
 -- What they leave.
 pub taken_out :
-    (t : Timetable) {leaves : List Bool} {count cost : ℕ} → count ≡ t.line.count → CostIs t.notes leaves count cost → (line' : Timeline spans_room) →
+    (t : Timetable) {leaves : List Bool} {count cost : ℕ} → count ≡ t.line.count → CostIs t.notes leaves count cost → (line' : Spans) →
     KeptIs t.line.begins leaves t.line.count 0 line'.begins line'.count → KeptIs t.line.ends leaves t.line.count 0 line'.ends line'.count →
-    {jobs' : List ℕ} {some : ℕ} → KeptIs t.jobs leaves count 0 jobs' some → {notes' : List Note} {others : ℕ} → KeptIs t.notes leaves count no_note notes' others →
+    {jobs' : List ℕ} {some : ℕ} → KeptIs t.jobs leaves count 0 jobs' some →
+    {notes' : List Note} {others : ℕ} → KeptIs t.notes leaves count no_note notes' others →
     TakenOutIs t leaves (record { line = line'; jobs = jobs'; notes = notes'; clock = t.clock; total = t.total - cost; soonest = t.soonest })
 taken_out t same cost_is line' begins_kept ends_kept jobs_kept notes_kept = record {
   is =
@@ -112,7 +112,19 @@ module _
   pub taken_is : t' ≡ record (timetable_of (remove leaving st)) { soonest = soonest_end st.rows }
   unfolding remove
   taken_is =
-      let left = taken.is (line_of st.rows) leaving (last_finish st.rows) (count_is is) says (no_last is) (ap (λ x. x.line.begins) is.is) (ap (λ x. x.line.ends) is.is) (ap (λ x. x.jobs) is.is) (notes_are is) in
+      let left =
+      taken.is
+      (line_of st.rows)
+      leaving
+      (last_finish st.rows)
+      (count_is is)
+      says
+      (no_last is)
+      (ap (λ x. x.line.begins) is.is)
+      (ap (λ x. x.line.ends) is.is)
+      (ap (λ x. x.jobs) is.is)
+      (notes_are is)
+      in
       let kept = line_keep (stay leaving) st.rows in
       let rest = keep (stay leaving) st.rows in
       let count = ap length kept ∙ line_long rest in
@@ -128,7 +140,3 @@ module _
         total = (before i).total - gone i;
         soonest = (before i).soonest;
       })
-
-  pub few_left : t'.line.count ≤ row_limit
-  unfolding remove
-  few_left = omega (arith, ap (λ x. x.line.count) taken_is, length_keep (stay leaving) st.rows, is.bounded.count)

@@ -15,9 +15,10 @@ use Rattle.rules.specs.Placing.{no_row}
 use Rattle.rules.specs.Refusals.{Call, step}
 use Rattle.rules.proofs.Sequences.{get_or_mem}
 use Rattle.rules.proofs.Bounds.{bounded_step}
-use Rattle.timeline.specs.RowLine.{line_of, notes_of, note_of}
+use Rattle.timeline.specs.Bookings.{booking_of}
+use Rattle.timeline.specs.RowLine.{spans_room, row_begin, row_end, line_of, notes_of, note_of}
 use Rattle.timeline.specs.Notes.{no_note}
-use Rattle.timeline.proofs.ColumnLaws.{column_at}
+use Rattle.timeline.proofs.ColumnLaws.{column_at, column_long}
 use Rattle.timeline.proofs.RowLines.{line_long, line_from}
 use Rattle.timetable.specs.declared.Timetable.{Timetable}
 use Rattle.timetable.specs.Derived.{last_finish}
@@ -42,6 +43,9 @@ module _ {s : Setup} {st : State} {t : Timetable} (is : TimetableOf s st t) wher
   pub notes_are : t.notes ≡ notes_of (last_finish st.rows) line
   notes_are = ap (λ x. x.notes) is.is
 
+  pub notes_long : length t.notes ≡ spans_room
+  notes_long = ap length notes_are ∙ column_long (note_of (last_finish st.rows)) line (omega (arith, count_is, few_held))
+
   -- 0 is no job's number
   pub no_last : last_finish st.rows 0 ≡ 0
   no_last = last_none st.rows (λ row m. (is.bounded.rows row m).job.first)
@@ -52,10 +56,27 @@ module _ {s : Setup} {st : State} {t : Timetable} (is : TimetableOf s st t) wher
   pub note_at : (i : ℕ) → i < t.line.count → get_or t.notes i no_note ≡ note_of (last_finish st.rows) (get_or line i no_row)
   note_at i h = ap (λ l. get_or l i no_note) notes_are ∙ column_at (note_of (last_finish st.rows)) line i no_note (omega (arith, count_is))
 
+  -- the figures of a row, as its columns say them
+  pub booking_at :
+      (i : ℕ) → i < t.line.count →
+      record {
+        begin = get_or t.line.begins i 0;
+        end = get_or t.line.ends i 0;
+        holder = (get_or t.notes i no_note).holder;
+        cost = (get_or t.notes i no_note).cost;
+      }
+      ≡ booking_of (get_or line i no_row)
+  booking_at i h =
+      let there : i < length line = omega (arith, count_is) in
+      let begin = ap (λ x. get_or x.line.begins i 0) is.is ∙ column_at row_begin line i 0 there in
+      let end = ap (λ x. get_or x.line.ends i 0) is.is ∙ column_at row_end line i 0 there in
+      let note = note_at i h in
+      λ k. record { begin = begin k; end = end k; holder = (note k).holder; cost = (note k).cost }
+
   module _ (c : Call) where
     pub goes :
-        {left : State} {r : Result Admission Refusal} {t' : Timetable} → answered r ≡ (step s st c).answer → (step s st c).left ≡ left → t' ≡ timetable_of left →
-        Goes s st c t' r
+        {left : State} {r : Result Admission Refusal} {t' : Timetable} → answered r ≡ (step s st c).answer → (step s st c).left ≡ left →
+        t' ≡ timetable_of left → Goes s st c t' r
     goes answer_is left_is is' = record {
       answer_is = answer_is;
       left = record { sound = is.sound; bounded = bounded_step s is.sound st c is.bounded; is = is' ∙ ap timetable_of (sym left_is) };

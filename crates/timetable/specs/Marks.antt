@@ -1,9 +1,9 @@
 -- Between functions: what is read off a timetable, whatever rows it is of.
-use Rattle.std.specs.Prelude.{◌≡◌, Bool, ◌&&◌, ℕ, ◌≤◌, ◌<◌, min, leb, length, get_or, Option, Some, None}
+use Rattle.std.specs.Prelude.{◌≡◌, Bool, ◌&&◌, ℕ, ◌<◌, min, leb, length, get_or, Option, Some, None}
 use mathlib.Core.List.{List, map, Memᴰ}
 use Rattle.rules.specs.declared.Row.{Row}
 use Rattle.rules.specs.Sequences.{any_of}
-use Rattle.rules.specs.Words.{of_job, row_limit}
+use Rattle.rules.specs.Words.{of_job}
 use Rattle.rules.specs.Placing.{no_row}
 use Rattle.timeline.specs.declared.notes.Note.{Note}
 use Rattle.timeline.specs.Timeline.{tick_room}
@@ -13,10 +13,6 @@ use Rattle.timetable.specs.Derived.{least_of, never}
 
 abbrev pub JobsOf : List Row → List ℕ → Type 0
 JobsOf line jobs = jobs ≡ column (λ row. row.job) line
-
--- so many rows are held at the most
-abbrev pub AskJobs : (count : ℕ) → Type 0
-AskJobs count = count ≤ row_limit
 
 abbrev pub HeldIs : (jobs : List ℕ) (count job : ℕ) → Bool → Type 0
 HeldIs jobs count job r = (line : List Row) → length line ≡ count → JobsOf line jobs → r ≡ any_of (of_job job) line
@@ -28,10 +24,8 @@ pub record PlaceOf (jobs : List ℕ) (count job : ℕ) (r : Option ℕ) : Type 0
   pub here : (at : ℕ) → r ≡ Some at → get_or jobs at 0 ≡ job
   pub none_before : (at : ℕ) → r ≡ Some at → (i : ℕ) → i < at → get_or jobs i 0 ≡ job → ⊥
 
-pub record AskBegun (t : Timetable) (job from : ℕ) : Type 0 where
-  pub few : t.line.count ≤ row_limit
-  pub at_most : from ≤ t.line.count
-  pub none_before : (i : ℕ) → i < from → get_or t.jobs i 0 ≡ job → ⊥
+abbrev pub AskBegun : Timetable → (job from : ℕ) → Type 0
+AskBegun t job from = (i : ℕ) → i < from → get_or t.jobs i 0 ≡ job → ⊥
 
 abbrev pub BegunIs : Timetable → (job : ℕ) → Bool → Type 0
 BegunIs t job r =
@@ -40,9 +34,6 @@ BegunIs t job r =
 
 abbrev pub RowsOfIs : (jobs : List ℕ) (count job : ℕ) → List Bool → Type 0
 RowsOfIs jobs count job leaves = (line : List Row) → length line ≡ count → JobsOf line jobs → Says (of_job job) line leaves
-
-abbrev pub AskNotes : (count : ℕ) → Type 0
-AskNotes count = count ≤ row_limit
 
 -- a job's rows all leave, or all stay
 abbrev pub WholeJobs : (leaving : Row → Bool) → List Row → Type 0

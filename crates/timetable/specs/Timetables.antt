@@ -1,17 +1,18 @@
 -- Between functions: the timetable that stands for a state of the rules, and what a call over it gives.
-use Rattle.std.specs.Prelude.{◌≡◌, Bool, List, ℕ, ◌-◌, ◌≤◌, length, Some, Result, Ok, Err}
+use Rattle.std.specs.Prelude.{◌≡◌, Bool, List, ℕ, ◌-◌, length, get_or, Some, Result, Ok, Err}
 use Rattle.rules.specs.declared.Row.{Row}
 use Rattle.rules.specs.declared.Setup.{Setup}
 use Rattle.rules.specs.declared.answers.Admission.{Admission}
 use Rattle.rules.specs.declared.answers.Refusal.{Refusal}
 use Rattle.rules.specs.Answers.{answered, refused}
-use Rattle.rules.specs.Words.{State, fresh, largest_number}
-use Rattle.rules.specs.Placing.{costs}
+use Rattle.rules.specs.Words.{State, fresh}
+use Rattle.rules.specs.Placing.{costs, no_row}
 use Rattle.rules.specs.Sequences.{keep}
 use Rattle.rules.specs.Bounds.{Sound, Bounded}
 use Rattle.rules.specs.Refusals.{Call, withdraws, advances, refusal, step}
 use Rattle.timeline.specs.RowLine.{row_begin, row_end, line_of, column, notes_of, Says}
-use Rattle.timeline.specs.TakenOut.{FirstLeaving, left_of}
+use Rattle.timeline.specs.TakenOut.{left_of}
+use Rattle.timeline.specs.declared.leaving.Leaving.{Leaving}
 use Rattle.timetable.specs.declared.Timetable.{Timetable}
 use Rattle.timetable.specs.Derived.{last_finish, soonest_end}
 use Rattle.timetable.specs.Marks.{JobsOf, PlaceOf}
@@ -52,12 +53,18 @@ pub record Goes (s : Setup) (st : State) (c : Call) (t : Timetable) (r : Result 
 abbrev pub CallIs : Call → (old new : Timetable) → Result Admission Refusal → Type 0
 CallIs c old new r = (s : Setup) (st : State) → TimetableOf s st old → Goes s st c new r
 
+-- the row that stands at an index of the line
+abbrev pub RowAtIs : Timetable → (at : ℕ) → Row → Type 0
+RowAtIs t at r = (s : Setup) (st : State) → TimetableOf s st t → r ≡ get_or (line_of st.rows) at no_row
+
 -- a withdrawal that the rules refuse so; where it is accepted, the number is one of a job, and its first row stands at the index
-pub record WithdrawalIs (t : Timetable) (number : ℕ) (r : Result ℕ Refusal) : Type 0 where
+pub record WithdrawalIs (t : Timetable) (number : ℕ) (r : Result (ℕ × ℕ) Refusal) : Type 0 where
   pub refuses : (why : Refusal) → r ≡ Err why → (s : Setup) (st : State) → TimetableOf s st t → (step s st (withdraws number)).answer ≡ refused why
-  pub accepts : (from : ℕ) → r ≡ Ok from → (s : Setup) (st : State) → TimetableOf s st t → answered (Ok (record { cost = 0; rows = 0 })) ≡ (step s st (withdraws number)).answer
-  pub fits : (from : ℕ) → r ≡ Ok from → number ≤ largest_number
-  pub place : (from : ℕ) → r ≡ Ok from → PlaceOf t.jobs t.line.count number (Some from)
+  pub accepts :
+      (job from : ℕ) → r ≡ Ok (job, from) → (s : Setup) (st : State) → TimetableOf s st t →
+      answered (Ok (record { cost = 0; rows = 0 })) ≡ (step s st (withdraws number)).answer
+  pub job_is : (job from : ℕ) → r ≡ Ok (job, from) → job ≡ number
+  pub place : (job from : ℕ) → r ≡ Ok (job, from) → PlaceOf t.jobs t.line.count number (Some from)
 
 -- what a clock move answers
 abbrev pub AdvancementIs : (clock tick : ℕ) → Result Unit Refusal → Type 0
@@ -66,12 +73,12 @@ AdvancementIs clock tick r =
 
 -- Rows that leave.
 
-pub record AskTakeOut (t : Timetable) (leaves : List Bool) (from : ℕ) : Type 0 where
+pub record AskTakeOut (t : Timetable) (leaving : Leaving) : Type 0 where
   pub ask : AskTimetable t
-  pub first : FirstLeaving leaves t.line.count from
+  pub count_is : leaving.count ≡ t.line.count
   -- a test of the rows says which leave: so the total is at least their cost
-  pub leaving : Row → Bool
-  pub says : Says leaving (line_of ask.state.rows) leaves
+  pub leaves : Row → Bool
+  pub says : Says leaves (line_of ask.state.rows) leaving.marks
 
 -- Whatever rows they are the columns of, and whichever leave: what is left is the columns of the others, and their cost is off the total. The clock and the
 -- soonest end are as before.

@@ -1,34 +1,31 @@
 // Withdrawals and clock moves: rows that leave.
 ghost use Rattle.rules.specs.Refusals.{withdraws, advances};
-ghost use Rattle.timetable.specs.Marks.{AskNotes, SoonestLeft};
+ghost use Rattle.timetable.specs.Marks.{SoonestLeft};
 ghost use Rattle.timetable.specs.Timetables.{AskTimetable, WithdrawalIs, AdvancementIs, AskTakeOut, TakenOutIs, CallIs};
 
 use crate::Timetable;
+use rules::HORIZON;
 use rules::answers::{Admission, Refusal};
-use rules::{HORIZON, LAST_JOB, ROWS};
-use timeline::columns::{first_leaving, keep_staying};
-use timeline::notes::{NO_NOTE, cost_of_leaving};
-
-// What a withdrawal and a clock move admit: they add no row.
-const NOTHING: Admission = Admission { cost: 0, rows: 0 };
+use timeline::columns::keep_staying;
+use timeline::leaving::Leaving;
+use timeline::notes::{Note, cost_of_leaving};
 
 impl Timetable {
-    // Refusals 9 and 10: the job is not held, or one of its rows starts at or before the clock. Else where its first row stands.
-    fn withdrawal(&self, number: u64) -> Result<usize, Refusal>
-        requires { AskTimetable self.now }
+    // Refusals 9 and 10: the job is not held, or one of its rows starts at or before the clock. Else its number as rows carry it, and where its first row
+    // stands.
+    fn withdrawal(&self, number: u64) -> Result<(u16, usize), Refusal>
         ensures { WithdrawalIs self.now number result }
     {
-        if LAST_JOB < number {
+        let Ok(job) = u16::try_from(number) else {
             return Err(Refusal::NotHeld);
-        }
-        let job = number as u16;
+        };
         let Some(from) = self.place_of(job) else {
             return Err(Refusal::NotHeld);
         };
         if self.has_begun(job, from) {
             return Err(Refusal::Begun);
         }
-        Ok(from)
+        Ok((job, from))
     }
 
     // Refusals 11 and 12: a clock that goes back, or too far.
@@ -44,21 +41,19 @@ impl Timetable {
         Ok(())
     }
 
-    // The rows that leave are taken out, and their cost off the total. None leaves before the index given.
-    fn take_out(&mut self, leaves: &[bool; ROWS], from: usize)
-        requires { AskTakeOut self.old leaves.now from }
-        ensures { TakenOutIs self.old leaves.now self.new }
+    // The rows that leave are taken out, and their cost off the total.
+    fn take_out(&mut self, leaving: &Leaving)
+        requires { AskTakeOut self.old leaving.now }
+        ensures { TakenOutIs self.old leaving.now.marks self.new }
     {
-        let count = self.line.count();
-        self.total -= cost_of_leaving(&self.notes, leaves, count);
-        self.line.keep_staying(leaves, from);
-        keep_staying(&mut self.jobs, leaves, from, count, 0);
-        keep_staying(&mut self.notes, leaves, from, count, NO_NOTE);
+        self.total -= cost_of_leaving(&self.notes, leaving);
+        self.line.keep_staying(leaving);
+        keep_staying(&mut self.jobs, leaving, 0);
+        keep_staying(&mut self.notes, leaving, Note::default());
     }
 
     // The soonest end of the jobs that are left when one with this last finish has gone: the one before, unless it was that.
     fn soonest_left(&self, last: u64) -> u64
-        requires { AskNotes self.now.line.count }
         ensures { SoonestLeft self.now.notes self.now.line.count self.now.soonest last result }
     {
         if self.soonest < last {
@@ -67,20 +62,20 @@ impl Timetable {
         self.soonest_end()
     }
 
-    // The rows of a job leave, unless it is not held or has begun.
+    // The rows of a job leave, unless it is not held or has begun. No row is added.
     pub fn withdraw(&mut self, number: u64) -> Result<Admission, Refusal>
         requires { AskTimetable self.old }
         ensures { CallIs (withdraws number) self.old self.new result }
     {
-        let from = self.withdrawal(number)?;
+        let (job, from) = self.withdrawal(number)?;
         let last = self.notes[from].last;
-        let leaves = self.rows_of(number as u16);
-        self.take_out(&leaves, from);
+        let leaving = self.rows_of(job, from);
+        self.take_out(&leaving);
         self.soonest = self.soonest_left(last);
-        Ok(NOTHING)
+        Ok(Admission::default())
     }
 
-    // The clock is set, and jobs that have ended leave. Before the soonest end none has, and no row is looked at.
+    // The clock is set, and jobs that have ended leave. Before the soonest end none has, and no row is looked at. No row is added.
     pub fn advance(&mut self, tick: u64) -> Result<Admission, Refusal>
         requires { AskTimetable self.old }
         ensures { CallIs (advances tick) self.old self.new result }
@@ -88,12 +83,11 @@ impl Timetable {
         self.advancement(tick)?;
         self.clock = tick;
         if tick < self.soonest {
-            return Ok(NOTHING);
+            return Ok(Admission::default());
         }
-        let leaves = self.rows_ended(tick);
-        let from = first_leaving(&leaves, self.line.count());
-        self.take_out(&leaves, from);
+        let leaving = self.rows_ended(tick);
+        self.take_out(&leaving);
         self.soonest = self.soonest_end();
-        Ok(NOTHING)
+        Ok(Admission::default())
     }
 }

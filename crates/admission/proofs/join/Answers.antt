@@ -1,16 +1,9 @@
 -- `admission::join` meets its contract: the first i of the own rows have joined the numbers and the notes.
-use native.Mathlib.Omega.{arith}
-use Rattle.admission.proofs.Joining.{joining_none, joining_more, joining_all, job_asked, note_asked}
+use Rattle.admission.proofs.Joining.{joining_more, joining_all, job_asked}
 use Rattle.admission.proofs.join.Goals as goal
-
-pub loop-i-init : goal.loop-i-init
-loop-i-init c = joining_none c.requires (omega arith)
 
 pub insert_at-requires : goal.insert_at-requires
 insert_at-requires c = job_asked c.loop-i.invariant c.requires c.as_slice-entry-items.ensures.value c.loop-i-test.true
-
-pub insert_at-requires-in-loop-i : goal.insert_at-requires-in-loop-i
-insert_at-requires-in-loop-i c = note_asked c.loop-i.invariant c.requires c.as_slice-entry-items.ensures.value c.loop-i-test.true
 
 pub loop-i-preserved : goal.loop-i-preserved
 loop-i-preserved c =

@@ -11,7 +11,7 @@ pub place-requires : goal.place-requires
 place-requires c = place_asked c.requires
 
 pub returns-in-Ok : goal.returns-in-Ok
-returns-in-Ok c = judged_admitted c.requires c.place.ensures c.in-Ok.is (omega (arith, c.count-held.ensures, c.len.ensures.value))
+returns-in-Ok c = judged_admitted c.requires c.place.ensures c.in-Ok.is (omega (arith, c.count-held.ensures.is, c.len.ensures.value))
 
 pub undo-requires : goal.undo-requires
 undo-requires c = undo_asked c.requires c.place.ensures
@@ -26,7 +26,7 @@ returns c =
           c.requires
           c.place.ensures
           w.in-Ok.is
-          (omega (arith, w.if-held-len-le-ROWS.false, c.count-held.ensures, w.len.ensures.value))
+          (omega (arith, w.if-held-len-le-ROWS.false, c.count-held.ensures.is, w.len.ensures.value))
           c.undo.ensures)
       | in-Err w ↦ rw w.refusal-is (judged_late c.requires c.place.ensures w.in-Err.is c.undo.ensures)
     ]

@@ -21,7 +21,7 @@ overflow_add-timetable c =
       total_room
           c.in_ok-tested.ensures
           c.in_ok-admission.ensures
-          c.count-held.ensures
+          c.count-held.ensures.is
           (rw c.as_slice.ensures.value at c.last_of-last.ensures)
           c.join.ensures
           c.requires,
@@ -32,7 +32,7 @@ returns c =
     accepted_submit
     c.in_ok-tested.ensures
     c.in_ok-admission.ensures
-    c.count-held.ensures
+    c.count-held.ensures.is
     (rw c.as_slice.ensures.value at c.last_of-last.ensures)
     c.join.ensures
     c.min-timetable.ensures

@@ -2,16 +2,13 @@
 use mathlib.Core.Path.{◌≡◌}
 use Prim.Native.Nat.{◌-◌, ◌<◌}
 use native.Mathlib.Omega.{arith}
-use lib.ListN.{length, length-append, length-reverse}
+use lib.ListN.{length, length-append}
 use Rattle.std.proofs.lemmas.Iterator.Adapters.{YieldsList-from_rev_slice}
-use Rattle.std.proofs.lemmas.Iterator.Consumers.{YieldsList-turn, YieldsList-end}
+use Rattle.std.proofs.lemmas.Iterator.Consumers.{YieldsList-turn}
 use Rattle.placement.specs.Own.{nth_entry}
-use Rattle.admission.proofs.Undoing.{turned, undoing_none, undoing_more, undoing_all, off_asked}
+use Rattle.admission.proofs.Undoing.{turned, undoing_more, off_asked}
 use Rattle.admission.proofs.undo.Goals as goal
 use Rattle.admission.proofs.undo.Goals.{In-Some}
-
-pub loop-entry-init : goal.loop-entry-init
-loop-entry-init c = undoing_none
 
 -- the entry is the last of those that are left
 turn :
@@ -34,10 +31,4 @@ loop-entry-preserved c =
     let t = turn (goal.at.loop-entry-preserved c).In-Some in
     rw
     (length-append)
-    (undoing_more c.loop-entry.invariant c.requires t.0 t.1 c.remove.ensures.spans c.remove.ensures.count)
-
-pub returns : goal.returns
-returns c =
-    let own = c.args.own.now.items in
-    let e = YieldsList-end (YieldsList-from_rev_slice own (cc)) c.loop-entry.yielded _ c.loop-entry.yielded_by _ _ c.in-None.is c.next.ensures.steps in
-    undoing_all c.loop-entry.invariant (omega (arith, e.1, length-reverse own))
+    (undoing_more c.loop-entry.invariant c.requires t.0 t.1 c.remove.ensures)

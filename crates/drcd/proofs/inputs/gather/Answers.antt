@@ -1,25 +1,25 @@
 -- `drcd::inputs::gather` meets its contract.
+use mathlib.Core.Path.{◌∙◌}
 use native.Mathlib.Omega.{arith}
 use lib.ListN.{get_or}
 use Rattle.std.proofs.lemmas.List.{take_more, take_all}
-use Rattle.rules.specs.Words.{messages_of}
-use Rattle.drcd.specs.Trials.{no_message}
+use Rattle.rules.specs.Words.{no_message}
 use Rattle.drcd.proofs.Listed.{EndsWithin, tasks_few, messages_few, messages_listed, ends_at}
 use Rattle.drcd.proofs.Gathered.{gathered_none, gathered_other, gathered_more, gathered_few, gathered_unplaced}
 use Rattle.drcd.proofs.inputs.gather.Goals as goal
 use Rattle.drcd.proofs.inputs.gather.Goals.{In-loop-message}
 
-ends : (c : In-loop-message) → EndsWithin (get_or (messages_of c.args.job.now) c.loop-message.message-index no_message)
-ends c = ends_at c.requires.job _ c.loop-message-test.true
+ends : (c : In-loop-message) → EndsWithin (get_or c.messages-message-items.result.now c.loop-message.message-index no_message)
+ends c = ends_at c.requires.job c.messages-message-items.ensures _ c.loop-message-test.true
 
-pub shared_ref_as_front-message-items : goal.shared_ref_as_front-message-items
-shared_ref_as_front-message-items c = messages_few c.requires.job
+pub messages-message-items-requires : goal.messages-message-items-requires
+messages-message-items-requires c = messages_few c.requires.job
 
 pub loop-message-init : goal.loop-message-init
-loop-message-init c = rw c.new-inputs.ensures (gathered_none _ _)
+loop-message-init c = rw c.clear.ensures (gathered_none _ _)
 
 pub offset_bounds-message-items-message-index : goal.offset_bounds-message-items-message-index
-offset_bounds-message-items-message-index c = omega (arith, messages_listed c.requires.job)
+offset_bounds-message-items-message-index c = omega (arith, messages_listed c.requires.job c.messages-message-items.ensures)
 
 pub overflow_add-t : goal.overflow_add-t
 overflow_add-t c = omega (arith, c.requires.listed, tasks_few c.requires.job)
@@ -34,7 +34,7 @@ pub bounds : goal.bounds
 bounds c = let e = ends (goal.at.bounds c).In-loop-message in omega arith
 
 pub push-requires : goal.push-requires
-push-requires c = (omega arith, omega (arith, gathered_few _ _ c.loop-message.invariant c.loop-message-test.true, messages_listed c.requires.job))
+push-requires c = (omega arith, omega (arith, gathered_few _ _ c.loop-message.invariant c.loop-message-test.true, messages_listed c.requires.job c.messages-message-items.ensures))
 
 pub loop-message-preserved-then-message-t : goal.loop-message-preserved-then-message-t
 loop-message-preserved-then-message-t c =
@@ -53,5 +53,5 @@ loop-message-preserved c =
 
 pub returns : goal.returns
 returns c = λ new stands placed.
-    let all = take_all _ (messages_of c.args.job.now) c.loop-message-test.false in
+    let all = take_all _ c.messages-message-items.result.now c.loop-message-test.false ∙ c.messages-message-items.ensures in
     (rw all at c.loop-message.invariant.is) new stands placed

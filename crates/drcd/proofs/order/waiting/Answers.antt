@@ -1,25 +1,25 @@
 -- `drcd::order::waiting` meets its contract.
+use mathlib.Core.Path.{◌∙◌}
 use native.Mathlib.Omega.{arith}
 use lib.ListN.{get_or}
 use Rattle.std.proofs.lemmas.List.{take_more, take_all}
-use Rattle.rules.specs.Words.{messages_of}
-use Rattle.drcd.specs.Trials.{no_message}
+use Rattle.rules.specs.Words.{no_message}
 use Rattle.drcd.proofs.Listed.{EndsWithin, tasks_few, messages_few, messages_listed, ends_at}
 use Rattle.drcd.proofs.Waiting.{waited_none, waited_placed, waited_unplaced}
 use Rattle.drcd.proofs.order.waiting.Goals as goal
 use Rattle.drcd.proofs.order.waiting.Goals.{In-loop-message, then-is_none, else-is_none}
 
-ends : (c : In-loop-message) → EndsWithin (get_or (messages_of c.args.job.now) c.loop-message.message-index no_message)
-ends c = ends_at c.requires _ c.loop-message-test.true
+ends : (c : In-loop-message) → EndsWithin (get_or c.messages-message-items.result.now c.loop-message.message-index no_message)
+ends c = ends_at c.requires c.messages-message-items.ensures _ c.loop-message-test.true
 
-pub shared_ref_as_front-message-items : goal.shared_ref_as_front-message-items
-shared_ref_as_front-message-items c = messages_few c.requires
+pub messages-message-items-requires : goal.messages-message-items-requires
+messages-message-items-requires c = messages_few c.requires
 
 pub loop-message-init : goal.loop-message-init
 loop-message-init c = waited_none _
 
 pub offset_bounds-message-items-message-index : goal.offset_bounds-message-items-message-index
-offset_bounds-message-items-message-index c = omega (arith, messages_listed c.requires)
+offset_bounds-message-items-message-index c = omega (arith, messages_listed c.requires c.messages-message-items.ensures)
 
 pub overflow_sub-message : goal.overflow_sub-message
 overflow_sub-message c = (ends (goal.at.overflow_sub-message c).In-loop-message).sender.first
@@ -48,5 +48,5 @@ loop-message-preserved c =
 
 pub returns : goal.returns
 returns c = λ new stands t listed.
-    let all = take_all _ (messages_of c.args.job.now) c.loop-message-test.false in
+    let all = take_all _ c.messages-message-items.result.now c.loop-message-test.false ∙ c.messages-message-items.ensures in
     rw all at (c.loop-message.invariant.is new stands t (omega (arith, tasks_few c.requires)))

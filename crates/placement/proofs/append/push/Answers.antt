@@ -7,4 +7,4 @@ pub insert-at-requires : goal.insert-at-requires
 insert-at-requires c = (omega arith, push_span c.requires.pushable)
 
 pub returns : goal.returns
-returns c = pushed_row c.insert-at.ensures.spans c.insert-at.ensures.count c.push.ensures.items
+returns c = pushed_row c.insert-at.ensures c.push.ensures.items

@@ -22,22 +22,22 @@ bounds-job-t c = few (goal.at.bounds-job-t c).In-Some
 pub overflow_add-release : goal.overflow_add-release
 overflow_add-release c = omega (arith, release_room c.requires c.loop.invariant c.loop-test.true c.in-Some.t c.in-Some.ensures)
 
-pub gather-inputs-requires : goal.gather-inputs-requires
-gather-inputs-requires c = gather_asked c.requires c.loop.invariant c.loop-test.true c.in-Some.t c.in-Some.ensures
+pub gather-requires : goal.gather-requires
+gather-requires c = gather_asked c.requires c.loop.invariant c.loop-test.true c.in-Some.t c.in-Some.ensures
 
 pub choose-requires : goal.choose-requires
-choose-requires c = choose_asked c.requires c.loop.invariant c.loop-test.true c.in-Some.t c.in-Some.ensures c.gather-inputs.ensures
+choose-requires c = choose_asked c.requires c.loop.invariant c.loop-test.true c.in-Some.t c.in-Some.ensures c.gather.ensures
 
 pub overflow_add-result : goal.overflow_add-result
 overflow_add-result c = omega (arith, few (goal.at.overflow_add-result c).In-Some)
 
 pub returns-in_default-choose : goal.returns-in_default-choose
 returns-in_default-choose c =
-    turning_late c.requires c.loop.invariant c.loop-test.true c.in-Some.t c.in-Some.ensures c.gather-inputs.ensures c.choose.ensures c.in_default-choose.is
+    turning_late c.requires c.loop.invariant c.loop-test.true c.in-Some.t c.in-Some.ensures c.gather.ensures c.choose.ensures c.in_default-choose.is
 
 pub append-requires : goal.append-requires
 append-requires c =
-    append_asked c.requires c.loop.invariant c.loop-test.true c.in-Some.t c.in-Some.ensures c.gather-inputs.ensures c.choose.ensures c.in-Some-choose.is
+    append_asked c.requires c.loop.invariant c.loop-test.true c.in-Some.t c.in-Some.ensures c.gather.ensures c.choose.ensures c.in-Some-choose.is
 
 pub offset_bounds-spots-t : goal.offset_bounds-spots-t
 offset_bounds-spots-t c = omega (arith, few (goal.at.offset_bounds-spots-t c).In-Some)
@@ -47,13 +47,13 @@ bounds-spots-t c = few (goal.at.bounds-spots-t c).In-Some
 
 pub overflow_add-cost : goal.overflow_add-cost
 overflow_add-cost c =
-    omega (arith, cost_room c.requires c.loop.invariant c.loop-test.true c.in-Some.t c.in-Some.ensures c.gather-inputs.ensures c.choose.ensures c.in-Some-choose.is)
+    omega (arith, cost_room c.requires c.loop.invariant c.loop-test.true c.in-Some.t c.in-Some.ensures c.gather.ensures c.choose.ensures c.in-Some-choose.is)
 
 pub loop-preserved : goal.loop-preserved
 loop-preserved c =
     rw
     (add-one c.loop.counter)
-    (turning_more c.requires c.loop.invariant c.loop-test.true c.in-Some.t c.in-Some.ensures c.gather-inputs.ensures c.choose.ensures c.in-Some-choose.is
+    (turning_more c.requires c.loop.invariant c.loop-test.true c.in-Some.t c.in-Some.ensures c.gather.ensures c.choose.ensures c.in-Some-choose.is
     c.append.ensures)
 
 pub returns : goal.returns

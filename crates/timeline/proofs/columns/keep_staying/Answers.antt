@@ -1,9 +1,7 @@
--- `timeline::columns::keep_staying` meets its contract.
-use Rattle.timeline.proofs.Packed.{clear_asked, kept_is}
+-- `timeline::columns::keep_staying` meets its contract: behind those that stay blanks are written.
+use Rattle.timeline.proofs.Packed.{kept_is}
 use Rattle.timeline.proofs.columns.keep_staying.Goals as goal
 
-pub clear-requires : goal.clear-requires
-clear-requires g c = clear_asked c.requires c.pack-kept.ensures
-
 pub returns : goal.returns
-returns g c = kept_is c.requires c.pack-kept.ensures c.clear.ensures
+returns g c =
+    kept_is c.args.leaving.now.few c.requires c.pack-kept.ensures _ c.loop-value.auto.value-items c.loop-value.invariant c.loop-value-test.false

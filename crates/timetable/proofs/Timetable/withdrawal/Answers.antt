@@ -3,14 +3,14 @@ use native.Mathlib.Omega.{arith}
 use Rattle.timetable.proofs.Judging.{judged_past, judged_absent, judged_begun, judged_free}
 use Rattle.timetable.proofs.Timetable.withdrawal.Goals as goal
 
-pub returns-then-number-gt-LAST_JOB : goal.returns-then-number-gt-LAST_JOB
-returns-then-number-gt-LAST_JOB c = judged_past _ _ c.if-number-gt-LAST_JOB.true
-
 pub returns-in_default : goal.returns-in_default
-returns-in_default c = judged_absent _ _ c.in_default.ensures
+returns-in_default c = judged_past _ _ (let over = c.in_default.ensures in omega arith)
+
+pub returns-in_default-place_of : goal.returns-in_default-place_of
+returns-in_default-place_of c = rw (c.in-Ok.ensures.1) at (judged_absent c.args.self.now _ c.in_default-place_of.ensures)
 
 pub returns-then-has_begun : goal.returns-then-has_begun
-returns-then-has_begun c = judged_begun _ _ c.in-Some.ensures c.if-has_begun.ensures
+returns-then-has_begun c = rw (c.in-Ok.ensures.1) at (judged_begun c.args.self.now c.in-Ok.job c.in-Some.ensures c.if-has_begun.ensures)
 
 pub returns : goal.returns
-returns c = judged_free _ _ c.in-Some.ensures c.if-has_begun.ensures (let fits = c.if-number-gt-LAST_JOB.false in omega arith)
+returns c = rw (← c.in-Ok.ensures.1) (judged_free c.args.self.now c.in-Ok.job c.in-Some.ensures c.if-has_begun.ensures)

@@ -9,8 +9,8 @@ pub returns : goal.returns
 returns g c =
     let found = c.partition_point.ensures in
     let place = c.args.place in
-    first_is
-    c.requires
-    place
-    found.bound
-    (IsPartitionPoint-from_clause (λ end. leb end place) _ _ found.partitioned (ends_parted c.requires place) (λ a r q k. search rules))
+    let within = c.self.invariant in
+    let ascend = rw (← c.self.view_is) at c.requires in
+    rw (← c.self.view_is)
+    (first_is within ascend place found.bound
+    (IsPartitionPoint-from_clause (λ end. leb end place) _ _ found.partitioned (ends_parted within ascend place) (λ a r q k. search rules)))

@@ -5,7 +5,7 @@ use Rattle.timeline.proofs.line.Timeline.least_beside.Given as goal
 
 abbrev pub invariant-loop-found : goal.invariant-loop-found
 invariant-loop-found g l =
-    Turned l.self.begins l.self.ends l.self.count l.other.begins l.other.ends l.other.count l.sought.resource l.sought.len l.initial.found l.found l.again
+    Turned l.self l.other l.sought.resource l.sought.len l.initial.found l.found l.again
 
 abbrev pub decreases-loop-found : goal.decreases-loop-found
 decreases-loop-found g l = tick_limit - l.found

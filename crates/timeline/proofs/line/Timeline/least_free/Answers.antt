@@ -7,7 +7,7 @@ use Rattle.timeline.proofs.line.Timeline.least_free.Goals as goal
 pub first_gap-requires : goal.first_gap-requires
 first_gap-requires g c =
     let sought = c.args.sought in
-    (search rules, gap_asked _ _ _ sought.resource sought.from _ _ c.requires c.first_after.ensures)
+    (search rules, gap_asked _ _ sought.resource sought.from _ _ c.requires c.first_after.ensures)
 
 pub returns : goal.returns
 returns g c =

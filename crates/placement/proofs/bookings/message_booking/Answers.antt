@@ -1,7 +1,7 @@
--- `placement::bookings::message_entry` meets its contract: with the link's time and rate the row is the rules' one.
+-- `placement::bookings::message_booking` meets its contract: with the link's time and rate the row is the rules' one.
 use Rattle.std.proofs.Common.{refl, add_assoc}
 use Rattle.rules.specs.Words.{held_by}
-use Rattle.placement.proofs.bookings.message_entry.Goals as goal
+use Rattle.placement.proofs.bookings.message_booking.Goals as goal
 
 pub returns : goal.returns
 unfolding held_by

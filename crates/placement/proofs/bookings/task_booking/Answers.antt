@@ -1,7 +1,7 @@
--- `placement::bookings::task_entry` meets its contract: with the machine's rate and the run time the row is the rules' one.
+-- `placement::bookings::task_booking` meets its contract: with the machine's rate and the run time the row is the rules' one.
 use Rattle.std.proofs.Common.{refl, add_assoc}
 use Rattle.rules.specs.Words.{held_by}
-use Rattle.placement.proofs.bookings.task_entry.Goals as goal
+use Rattle.placement.proofs.bookings.task_booking.Goals as goal
 
 pub returns : goal.returns
 unfolding held_by

@@ -1,29 +1,29 @@
--- `drcd::trial::try_inputs` meets its contract: after i messages the rows tried are those of the rules.
-use mathlib.Core.Path.{◌≡◌, refl, ap}
+-- `drcd::Scene::try_inputs` meets its contract: after i messages the rows tried are those of the rules.
+use mathlib.Core.Path.{◌≡◌, ap}
 use mathlib.Core.Logic.{inl, inr}
 use Prim.Native.Nat.{◌<◌}
 use native.Mathlib.Omega.{arith}
 use lib.ListN.{length, get_or}
 use Rattle.drcd.proofs.TriedRows.{no_input, tried_none, tried_off, ask_send, tried_across}
-use Rattle.drcd.proofs.trial.try_inputs.Goals as goal
-use Rattle.drcd.proofs.trial.try_inputs.Goals.{In-loop-i, then-input-machine-via-then-input-machine}
-use Rattle.drcd.proofs.trial.try_inputs.Goals.{then-input-machine-via-else-input-machine+then-input-eq0}
+use Rattle.drcd.proofs.Scene.try_inputs.Goals as goal
+use Rattle.drcd.proofs.Scene.try_inputs.Goals.{In-loop-i, then-input-machine-via-then-input-machine}
+use Rattle.drcd.proofs.Scene.try_inputs.Goals.{then-input-machine-via-else-input-machine+then-input-eq0}
 
 -- the index of this turn, and its input
-more : (c : In-loop-i) → c.loop-i.i < length c.args.inputs.now.items
+more : (c : In-loop-i) → c.loop-i.i < length c.args.self.inputs.now.items
 more c = rw c.as_slice-input-items.ensures.value at c.loop-i-test.true
 
-reads : (c : In-loop-i) → get_or c.as_slice-input-items.result.now c.loop-i.i no_input ≡ get_or c.args.inputs.now.items c.loop-i.i no_input
+reads : (c : In-loop-i) → get_or c.as_slice-input-items.result.now c.loop-i.i no_input ≡ get_or c.args.self.inputs.now.items c.loop-i.i no_input
 reads c = ap (λ l. get_or l c.loop-i.i no_input) c.as_slice-input-items.ensures.value
 
 pub loop-i-init : goal.loop-i-init
-loop-i-init c = rw c.new-tried.ensures (tried_none c.requires refl)
+loop-i-init c = rw c.new-tried.ensures (tried_none c.requires.turn c.requires.long)
 
 pub loop-i-preserved-then-input-machine : goal.loop-i-preserved-then-input-machine
 loop-i-preserved-then-input-machine c =
     let at = (goal.at.loop-i-preserved-then-input-machine c).In-loop-i in
     tried_off
-    c.requires
+    c.requires.turn
     c.loop-i.invariant
     (more at)
     (reads at)
@@ -36,13 +36,13 @@ loop-i-preserved-then-input-machine c =
 pub send-sent-requires : goal.send-sent-requires
 send-sent-requires c =
     let at = (goal.at.send-sent-requires c).In-loop-i in
-    ask_send c.requires c.loop-i.invariant (more at) (reads at) c.if-input-machine.false (omega (arith, c.if-input-eq0.false))
+    ask_send c.requires.turn c.loop-i.invariant (more at) (reads at) c.if-input-machine.false (omega (arith, c.if-input-eq0.false))
 
 pub loop-i-preserved : goal.loop-i-preserved
 loop-i-preserved c =
     let at = (goal.at.loop-i-preserved c).In-loop-i in
     tried_across
-    c.requires
+    c.requires.turn
     c.loop-i.invariant
     (more at)
     (reads at)

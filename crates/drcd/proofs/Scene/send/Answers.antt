@@ -1,14 +1,14 @@
--- `drcd::trial::send` meets its contract.
+-- `drcd::Scene::send` meets its contract.
 use Prim.Native.Nat.{◌+◌, ◌*◌, ◌^◌, ◌<◌}
 use native.Mathlib.Omega.{arith}
 use Rattle.timeline.specs.Timeline.{tick_room}
 use Rattle.drcd.proofs.Sending.{ask_beside, ask_span, place_fits, sent_is}
-use Rattle.drcd.proofs.trial.send.Goals as goal
-use Rattle.drcd.proofs.trial.send.Goals.{After-least_beside-start}
+use Rattle.drcd.proofs.Scene.send.Goals as goal
+use Rattle.drcd.proofs.Scene.send.Goals.{After-least_beside-start}
 
 -- its place on the line, and where it ends there
 fits : (c : After-least_beside-start) →
-    c.link_number-resource.result * tick_room + c.least_beside-start.result + c.link_time.result * c.args.crossing.volume < 2 ^ 64
+    c.link_number-resource.result * tick_room + c.least_beside-start.result + c.link_time.result * c.args.input.now.volume < 2 ^ 64
 fits c = place_fits c.requires c.link_time.ensures c.link_number-resource.ensures c.least_beside-start.ensures
 
 pub least_beside-start-requires : goal.least_beside-start-requires
@@ -34,5 +34,4 @@ returns c =
     c.link_number-resource.ensures
     c.least_beside-start.ensures
     c.link_rate.ensures
-    c.insert.ensures.spans
-    c.insert.ensures.count
+    c.insert.ensures

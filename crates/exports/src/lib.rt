@@ -19,8 +19,8 @@ pub extern "C" fn register_run(input: &[u8], output: &mut [u8; OUTPUT]) -> usize
     run(input, output)
 }
 
-// Writes the text of a job, given as the figures of its lines in their order, from the output's start on. Answers 0, 20 or 21; the text's length, or 0 in a
-// refusal, goes to `length`.
+// Writes the text of a job, given as the figures of its lines in their order, from the output's start on. Answers 0, 20 or 21, since C has no
+// `Result`; the text's length, or 0 in a refusal, goes to `length`.
 #[unsafe(no_mangle)]
 pub extern "C" fn register_write_job(figures: &[u64], output: &mut [u8], length: &mut usize) -> u64
     ensures { WritesSo (unfilled_number default_machines figures.now) (written (job_form default_machines) figures.now)

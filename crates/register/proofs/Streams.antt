@@ -1,22 +1,14 @@
 -- What the streams of the program gave and took.
-use Rattle.std.proofs.Common.{◌≡◌, ℕ, ◌+◌, ◌-◌, ◌≤◌, ◌<◌, List, ◌++◌, length, take, drop, refl, sym, true, ltb, ap, ◌∙◌, inl, inr, arith}
+use Rattle.std.proofs.Common.{◌≡◌, ℕ, ◌+◌, ◌-◌, ◌≤◌, ◌<◌, List, ◌++◌, length, take, refl, sym, true, ltb, ap, ◌∙◌, inl, inr, arith}
 use Rattle.std.proofs.Math.Seq.{length-take-le, take-add}
-use Rattle.std.proofs.lemmas.List.{take-append-le, drop_at, append_assoc}
+use Rattle.std.proofs.lemmas.List.{append_assoc}
 use Rattle.std.proofs.lemmas.Bool.{lt-ltb, cases_lt}
 use Rattle.std.specs.List.{slice_range}
 use Rattle.std.specs.Prelude.{Option, None, Some, Result, Ok, Err, OnOk, IfSome}
 use Rattle.std.specs.Io.KnownBytes.{Appends, Consumes}
-use borrow.Rule.Slice.PartMut.{put_mid, post_of}
 use Rattle.rules.specs.declared.Setup.{Setup}
 use Rattle.register.specs.Reading.{HoldsInput}
 use Rattle.script.specs.Program.{input_limit, program, script}
-
--- what a read put at the start of the rest of a buffer
-pub read_part : (at k n : ℕ) (old ys : List ℕ) → at ≤ length old → n ≤ length ys → slice_range (put_mid at k old ys) at (at + n) ≡ take n ys
-read_part at k n old ys within few =
-    let rest : drop at (put_mid at k old ys) ≡ ys ++ post_of at k old = drop_at (take at old) _ _ (length-take-le at old within) in
-    let all : at + n - at ≡ n = omega arith in
-    rw (rest, all) (take-append-le n ys _ few)
 
 -- of an input above the limit nothing is acted on
 pub too_long_alike : (s : Setup) (xs ys : List ℕ) → input_limit < length xs → input_limit < length ys → program s xs ≡ program s ys

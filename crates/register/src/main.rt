@@ -38,13 +38,14 @@ fn read_into<R: Read>(reader: &mut R, buffer: &mut [u8], at: usize) -> Result<us
     ensures bytes { ReadsNext (R.remaining reader.old) (R.remaining reader.new) buffer.new at result }
     ensures kept { take at buffer.new ≡ take at buffer.old }
 {
-    match reader.read(&mut buffer[at..]) {
-        Ok(count) => Ok(at + count),
-        Err(_) => Err(Failure::Reading),
-    }
+    reader
+        .read(&mut buffer[at..])
+        .map(|count| at + count)
+        .map_err(|_| Failure::Reading)
 }
 
 // Reads to the end of the input, or until it is above the largest, and answers how many bytes there are.
+// By a loop of its own: `read_to_end` reads into a `Vec`, and there is no heap here.
 fn read_all<R: Read>(reader: &mut R, buffer: &mut [u8]) -> Result<usize, Failure>
     requires { AskBuffer buffer.old }
     ensures place { IfOk result (λ count. count ≤ input_limit + 1) }

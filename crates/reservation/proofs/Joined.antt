@@ -13,7 +13,8 @@ use Rattle.rules.specs.Placing.{no_row}
 use Rattle.rules.proofs.Sequences.{get_or_mem}
 use Rattle.timeline.specs.RowLine.{slots}
 use Rattle.placement.specs.declared.own.Entry.{Entry}
-use Rattle.placement.specs.Own.{nth_entry, RowIs}
+use Rattle.placement.specs.Own.{nth_entry}
+use Rattle.timeline.specs.Bookings.{RowIs}
 use Rattle.reservation.specs.Parts.{Joining, MoreIs}
 use Rattle.reservation.proofs.Slotted.{slot_next}
 
@@ -23,14 +24,14 @@ pub record Joined (held : List Row) (count : ℕ) (own : List Entry) (job : ℕ)
 
 module _
     {held : List Row} {count : ℕ} {own : List Entry} {job : ℕ} {rows : List Row} {i : ℕ} (sofar : Joined held count own job rows i) where
-  pub joined_more : {row : Row} → i < length own → RowIs (nth_entry own i) job row → Joined held count own job (set rows (count + i) row) (i + 1)
+  pub joined_more : {row : Row} → i < length own → RowIs (nth_entry own i).booking job row → Joined held count own job (set rows (count + i) row) (i + 1)
   joined_more {row} below is = record {
     follows =
         λ s old new join.
         let there : i < length new = omega (arith, join.own_is.long) in
         let next = get_or new i no_row in
         let listed = get_or_mem new i no_row there in
-        let same : row ≡ next = is s next join.sound (join.in_range next listed) (join.own_is.is i there) (join.one_job next listed) in
+        let same : row ≡ next = is s next join.sound (join.in_range next listed) (ap (λ e. e.booking) (join.own_is.is i there)) (join.one_job next listed) in
         let long = length-append old (take i new) in
         let front = length-take-le i new (omega arith) in
         let count_is = join.count_is in

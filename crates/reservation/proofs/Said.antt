@@ -12,6 +12,7 @@ use Rattle.rules.specs.declared.answers.Admission.{Admission}
 use Rattle.rules.specs.declared.answers.Refusal.{Refusal}
 use Rattle.rules.specs.declared.answers.Refusal.TheVariants as R
 use Rattle.rules.specs.Answers.{answered, refused}
+use Rattle.rules.proofs.Demand1.{by_refusal}
 use Rattle.rules.specs.Sequences.{any_of}
 use Rattle.rules.specs.Words.{State, view, largest_number, row_limit, horizon}
 use Rattle.rules.specs.Placing.{costs}
@@ -25,9 +26,6 @@ Said a = (r : Result Admission Refusal) × (answered r ≡ a)
 -- a withdrawal and a clock move add no rows
 abbrev nothing : Admission
 nothing = record { cost = 0; rows = 0 }
-
-abbrev by_refusal : (rest : Answer) (n : ℕ) → Option ℕ → Answer
-by_refusal rest n o = elim o as (λ _. Answer) [ none ↦ rest | some t ↦ refusal n t ]
 
 module _ {n : ℕ} {rest : Answer} where
   -- a test that names a task

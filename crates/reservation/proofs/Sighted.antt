@@ -4,39 +4,32 @@ use mathlib.Core.Path.{◌≡◌, refl, sym, ap, ◌∙◌, subst}
 use mathlib.Core.List.{List, Memᴰ}
 use Prim.Native.Nat.{ℕ, ◌+◌, ◌*◌, ◌≤◌, ◌<◌}
 use native.Mathlib.Omega.{arith}
-use lib.ListN.{length, get_or}
+use lib.ListN.{get_or}
 use Rattle.rules.specs.declared.Row.{Row}
 use Rattle.rules.specs.declared.Seen.{Seen}
+use Rattle.rules.specs.declared.Setup.{Setup}
 use Rattle.rules.specs.declared.Seen.TheVariants.{Idle, Booked, NoMachine}
-use Rattle.rules.specs.Words.{resource, hold_of, holds, horizon, view}
+use Rattle.rules.specs.Words.{State, resource, hold_of, holds, horizon, view}
 use Rattle.rules.specs.Asked.{HasMachine}
 use Rattle.rules.specs.Codes.{resource_number}
 use Rattle.rules.specs.Placing.{no_row}
-use Rattle.rules.specs.Bounds.{RowInRange}
 use Rattle.rules.specs.Refusals.{look}
 use Rattle.rules.specs.Laws.{IsMachine, RunsAt}
 use Rattle.rules.specs.Demands.{NoSharedTick, SeenBy}
 use Rattle.rules.proofs.Sequences.{by_less, mem_get_or, mem_map}
 use Rattle.rules.proofs.Apart.{shares_none_apart}
 use Rattle.rules.proofs.Demand1.{demand_1_look}
-use Rattle.timeline.specs.declared.line.Timeline.{Timeline}
-use Rattle.timeline.specs.declared.notes.Note.{Note}
-use Rattle.timeline.specs.Timeline.{known_machine, tick_room, Drawable, Drawn, FirstAfter, AskFirst}
-use Rattle.timeline.specs.Lines.{LineOf, DrawnOn, span_at}
-use Rattle.timeline.specs.Notes.{no_note}
-use Rattle.timeline.specs.RowLine.{spans_room, row_begin, row_end, line_of}
-use Rattle.timeline.proofs.Drawing.{known_same, begins_ascend, ends_ascend}
-use Rattle.timeline.proofs.ColumnLaws.{column_at}
-use Rattle.placement.specs.declared.own.Entry.{Entry}
-use Rattle.placement.specs.Own.{RowIs}
-use Rattle.placement.proofs.Pushing.{line_drawn_on}
-use Rattle.placement.proofs.Appending.{in_range_drawable}
-use Rattle.timetable.proofs.Standing as Standing
+use Rattle.timeline.specs.Timeline.{known_machine, tick_room, Drawable, Drawn, EndsAscend, FirstAfter}
+use Rattle.timeline.specs.Lines.{DrawnOn}
+use Rattle.timeline.specs.RowLine.{row_begin, row_end, line_of}
+use Rattle.timeline.proofs.Drawing.{known_same, in_range_drawable, begins_ascend, ends_ascend}
+use Rattle.timeline.proofs.RowLines.{line_drawn}
+use Rattle.timetable.specs.declared.Timetable.{Timetable}
+use Rattle.timetable.specs.Timetables.{TimetableOf, RowAtIs}
+use Rattle.timetable.proofs.Standing.{row_there, booking_at}
 use Rattle.reservation.specs.declared.Register.{Register}
-use Rattle.reservation.specs.declared.Register.TheInside.{Inside}
 use Rattle.reservation.specs.Registers.{state_of}
 use Rattle.reservation.specs.Calls.{Looks}
-use Rattle.reservation.proofs.Values.{FieldsOf, count_is}
 
 -- where a tick of a machine is on the line
 abbrev pub place_of : (m tick : ℕ) → ℕ
@@ -84,75 +77,17 @@ one_runs rows {m} {tick} apart {a} {b} a_listed b_listed a_runs b_runs =
     let same : i.0 ≡ k.0 = omega arith in
     sym i.2 ∙ ap (λ n. get_or rows n no_row) same ∙ k.2))
 
--- The line of the fields of a register.
-module _ {r : Register} {a : Inside} (of : FieldsOf r a) where
-  abbrev its_line : Timeline spans_room
-  its_line = a.timetable.line
-
-  line_is : LineOf r.state.rows its_line
-  line_is = record {
-    spans = record { begins_are = ap (λ x. x.line.begins) of.timetable.is; ends_are = ap (λ x. x.line.ends) of.timetable.is };
-    count_is = count_is of;
-  }
-
-  held_drawn : DrawnOn (holds r.state.rows) its_line
+-- The line of a timetable.
+module _ {s : Setup} {st : State} {t : Timetable} (of : TimetableOf s st t) where
+  held_drawn : DrawnOn (holds st.rows) t.line
   held_drawn =
-      let few = of.timetable.bounded.count in
-      line_drawn_on
-      line_is
-      (omega arith)
-      (λ row m. in_range_drawable of.timetable.sound (of.timetable.bounded.rows row m))
-      (shares_none_apart r.state.rows of.timetable.bounded.apart)
+      let few = of.bounded.count in
+      rw of.is
+      (line_drawn st.rows (omega arith) (λ row m. in_range_drawable of.sound (of.bounded.rows row m)) (shares_none_apart st.rows of.bounded.apart))
 
   -- what the search asks
-  pub ends_asked : AskFirst its_line.ends its_line.count
-  ends_asked = record { long = held_drawn.ends_long; ascend = ends_ascend held_drawn }
-
-  -- the row at an index
-  module _ {at : ℕ} (below : at < its_line.count) where
-    abbrev its_row : Row
-    its_row = get_or (line_of r.state.rows) at no_row
-
-    on_line : at < length (line_of r.state.rows)
-    on_line = omega (arith, Standing.count_is of.timetable)
-
-    its_row_held : Memᴰ its_row r.state.rows
-    its_row_held = Standing.row_there of.timetable at below
-
-    its_row_range : RowInRange r.setup its_row
-    its_row_range = of.timetable.bounded.rows its_row its_row_held
-
-    begin_there : get_or its_line.begins at 0 ≡ row_begin its_row
-    begin_there = ap (λ l. get_or l at 0) line_is.spans.begins_are ∙ column_at row_begin (line_of r.state.rows) at 0 on_line
-
-    end_there : get_or its_line.ends at 0 ≡ row_end its_row
-    end_there = ap (λ l. get_or l at 0) line_is.spans.ends_are ∙ column_at row_end (line_of r.state.rows) at 0 on_line
-
-    job_there : get_or a.timetable.jobs at 0 ≡ its_row.job
-    job_there = ap (λ l. get_or l at 0) (Standing.jobs_are of.timetable) ∙ column_at (λ row. row.job) (line_of r.state.rows) at 0 on_line
-
-    -- the figures at the index
-    abbrev pub entry_there : ℕ × ℕ → Note → Entry
-    entry_there span note = record { at = at; begin = span.0; end = span.1; holder = note.holder; cost = note.cost }
-
-    row_is :
-        {span : ℕ × ℕ} {row : Row} → span ≡ span_at its_line at → RowIs (entry_there span (get_or a.timetable.notes at no_note)) (get_or a.timetable.jobs at 0) row →
-        row ≡ its_row
-    row_is span_is is =
-        let noted = Standing.note_at of.timetable at below in
-        is
-        r.setup
-        its_row
-        of.timetable.sound
-        its_row_range
-        (λ i. record {
-          at = at;
-          begin = (ap (λ x. x.0) span_is ∙ begin_there) i;
-          end = (ap (λ x. x.1) span_is ∙ end_there) i;
-          holder = (noted i).holder;
-          cost = (noted i).cost;
-        })
-        (sym job_there)
+  pub ends_asked : EndsAscend t.line.ends t.line.count
+  ends_asked = ends_ascend held_drawn
 
 -- What is seen in a register.
 module _ (r : Register) (m tick : ℕ) where
@@ -171,13 +106,13 @@ module _ (r : Register) (m tick : ℕ) where
       go (Booked row) is = absurd (none_such ((as_seen is).seen_by.passed.0 refl))
       go NoMachine is = as_seen is
 
-  module _ {a : Inside} (of : FieldsOf r a) (is_machine : IsMachine r.setup m) where
+  module _ {t : Timetable} (of : TimetableOf r.setup r.state t) (is_machine : IsMachine r.setup m) where
     sees_idle : ((row : Row) → Memᴰ row r.state.rows → RunsAt m tick row → ⊥) → Looks r m tick Idle
     sees_idle none_runs_there = as_seen (saw.idle.1 (is_machine, none_runs_there))
 
     -- past the horizon every row has ended
     pub sees_past : horizon < tick → Looks r m tick Idle
-    sees_past past = sees_idle (λ row listed runs. let ends = (of.timetable.bounded.rows row listed).ends in omega (arith, runs.within.1))
+    sees_past past = sees_idle (λ row listed runs. let ends = (of.bounded.rows row listed).ends in omega (arith, runs.within.1))
 
     -- a row on the machine at the tick is the one seen
     sees_row : (row : Row) → Memᴰ row r.state.rows → RunsAt m tick row → Looks r m tick (Booked row)
@@ -187,30 +122,34 @@ module _ (r : Register) (m tick : ℕ) where
         go Idle is = absurd ((saw.idle.0 is).1 row listed runs)
         go (Booked other) is =
             let seen = (as_seen is).seen_by.sees other refl in
-            as_seen (is ∙ ap Booked (one_runs r.state.rows of.timetable.bounded.apart seen.0 listed seen.1 runs))
+            as_seen (is ∙ ap Booked (one_runs r.state.rows of.bounded.apart seen.0 listed seen.1 runs))
         go NoMachine is = absurd ((as_seen is).seen_by.no_machine.0 refl is_machine)
 
-    module _ {at : ℕ} (first : FirstAfter a.timetable.line.ends a.timetable.line.count (place_of m tick) at) where
+    module _ {at : ℕ} (first : FirstAfter t.line.ends t.line.count (place_of m tick) at) where
       -- no span ends after the tick, or the first that does begins later
-      pub sees_none : (at < a.timetable.line.count → place_of m tick < get_or a.timetable.line.begins at 0) → Looks r m tick Idle
+      pub sees_none : (at < t.line.count → place_of m tick < get_or t.line.begins at 0) → Looks r m tick Idle
       sees_none later = sees_idle (none_runs (held_drawn of) first later)
 
       -- it begins at the tick or before: its row is made of its figures
       pub sees_its_row :
-          tick ≤ horizon → (below : at < a.timetable.line.count) → get_or a.timetable.line.begins at 0 ≤ place_of m tick →
-          {span : ℕ × ℕ} {row : Row} → span ≡ span_at a.timetable.line at →
-          RowIs (entry_there of below span (get_or a.timetable.notes at no_note)) (get_or a.timetable.jobs at 0) row → Looks r m tick (Booked row)
-      sees_its_row early below begun span_is is =
-          let has : HasMachine m = record { first = is_machine.first; last = omega (arith, is_machine.last, of.timetable.sound.room) } in
+          tick ≤ horizon → (below : at < t.line.count) → get_or t.line.begins at 0 ≤ place_of m tick →
+          {row : Row} → RowAtIs t at row → Looks r m tick (Booked row)
+      sees_its_row early below begun is =
+          let row = get_or (line_of r.state.rows) at no_row in
+          let held = row_there of at below in
+          let has : HasMachine m = record { first = is_machine.first; last = omega (arith, is_machine.last, of.sound.room) } in
+          let figures = booking_at of at below in
+          let begin = ap (λ x. x.begin) figures in
+          let end = ap (λ x. x.end) figures in
           rw
-          (row_is of below span_is is)
+          (is r.setup r.state of)
           (sees_row
-          (its_row of below)
-          (its_row_held of below)
+          row
+          held
           (row_runs
-          (its_row of below)
+          row
           has
           early
-          (in_range_drawable of.timetable.sound (its_row_range of below))
-          (omega (arith, begin_there of below))
-          (omega (arith, end_there of below, first.after at (omega arith) below))))
+          (in_range_drawable of.sound (of.bounded.rows row held))
+          (omega (arith, begin))
+          (omega (arith, end, first.after at (omega arith) below))))

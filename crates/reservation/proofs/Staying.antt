@@ -1,29 +1,44 @@
--- The rows whose jobs are still held: after i rows, the slots hold those of the first i that stay. Whole jobs leave, so that a row stays if its job has a row
--- that does.
+-- The rows whose jobs are still held: the slots hold those that a chain has yielded. Whole jobs leave, so that a row stays if its job has a row that does.
 use mathlib.Core.Path.{◌≡◌, refl, sym, ap, ◌∙◌}
-use mathlib.Core.Bool.{Bool, true, false, not}
-use mathlib.Core.List.{List, [], ◌∷◌, ◌++◌, append-nil, Memᴰ}
+use mathlib.Core.Bool.{Bool, not}
+use mathlib.Core.List.{List, [], ◌∷◌, ◌++◌, map, map-append, Memᴰ}
 use Prim.Native.Nat.{ℕ, ◌+◌, ◌≤◌, ◌<◌}
 use native.Mathlib.Omega.{arith}
-use native.Mathlib.Numerals.{add-one}
-use lib.ListN.{length, get_or, take, set, length-append}
-use lib.Seq.{take-suc, take-append_seam}
+use denote.Param.Members.{Mut}
+use denote.Ref.{Bor}
+use lib.ListN.{length, get_or, take, set, length-map}
+use lib.Seq.{take-append_seam}
 use borrow.Author.Tests.{eqb-true, eq-eqb}
+use Rattle.std.specs.Fn.{CalledAt}
+use Rattle.std.specs.List.{filter, enumerate_from}
+use Rattle.std.specs.Slice.Iter.{iter_rest}
+use Rattle.std.specs.Iterator.Adapters.{filter_source, filter_callee, filter_steps, enumerate_source, enumerate_count, enumerate_steps}
+use Rattle.std.specs.declared.iter.Enumerate.{Enumerate}
+use Rattle.std.specs.declared.iter.Filter.{Filter}
+use Rattle.std.proofs.Common.{Iter}
+use Rattle.std.proofs.iter.Yields.{fronts}
+use Rattle.std.proofs.lemmas.Iterator.{YieldsList, YieldsList-from_slice}
+use Rattle.std.proofs.lemmas.Iterator.Consumers.{YieldsList-at, YieldsList-from_filter, YieldsList-from_enumerate}
+use Rattle.std.proofs.lemmas.Simd.{map-map}
+use Rattle.std.proofs.lemmas.List.FromFn.{length-enumerate_from, get_or-enumerate_from}
 use Rattle.rules.specs.declared.Row.{Row}
-use Rattle.rules.specs.Sequences.{keep, cons_if, any_of}
+use Rattle.rules.specs.Sequences.{keep, any_of}
 use Rattle.rules.specs.Words.{of_job, row_limit}
-use Rattle.rules.specs.Placing.{no_row}
-use Rattle.rules.proofs.Sequences.{by_test, any_witness, any_mem, keep_mem, mem_keep, keep_append, length_keep, get_or_mem}
+use Rattle.rules.proofs.Sequences.{by_test, any_witness, any_mem, keep_mem, mem_keep, keep_same, length_keep}
 use Rattle.timeline.specs.RowLine.{line_of, slots}
 use Rattle.timeline.proofs.RowLines.{line_long}
 use Rattle.timetable.specs.declared.Timetable.{Timetable}
-use Rattle.timetable.specs.Marks.{AskJobs, HeldIs, WholeJobs}
+use Rattle.timetable.specs.Marks.{HeldIs, WholeJobs}
 use Rattle.timetable.proofs.Lines.{any_line}
-use Rattle.reservation.specs.Parts.{Staying, AskStay}
+use Rattle.reservation.specs.Parts.{Staying}
 use Rattle.reservation.proofs.Slotted.{slot_next}
 
 abbrev stay : (Row → Bool) → List Row → List Row
 stay leaving rows = keep (λ row. not (leaving row)) rows
+
+filter_keep : (p : Row → Bool) (rows : List Row) → filter p rows ≡ keep p rows
+filter_keep p [] = refl
+filter_keep p (row ∷ rows) = by_test (p row) (λ e. rw e (ap (λ l. row ∷ l) (filter_keep p rows))) (λ e. rw e (filter_keep p rows))
 
 -- a row stays if its job has a row that does
 stays_with_its_job :
@@ -42,72 +57,65 @@ stays_with_its_job leaving rows whole {row} listed =
     (λ s. any_mem (of_job row.job) (keep_mem (λ x. not (leaving x)) listed s) (eq-eqb row.job row.job refl) ∙ sym s)
     (λ s. e ∙ sym s))
 
--- after i rows
-pub record StayedSo (held : List Row) (count : ℕ) (t : Timetable) (rows : List Row) (kept i : ℕ) : Type 0 where
-  pub kept_few : kept ≤ i
-  pub kept_is : (all : List Row) (leaving : Row → Bool) → Staying all leaving held count t → kept ≡ length (stay leaving (take i all))
-  pub rows_are : (all : List Row) (leaving : Row → Bool) → Staying all leaving held count t → rows ≡ slots row_limit (stay leaving (take i all))
+-- The rows for which the code answers that their job is held are those that stay.
+module _ {all : List Row} {leaving : Row → Bool} {held : List Row} {count : ℕ} {t : Timetable} (staying : Staying all leaving held count t) where
+  abbrev pub still : Row → Bool
+  still row = any_of (of_job row.job) (line_of (stay leaving all))
 
-module _ {held : List Row} {count : ℕ} {t : Timetable} where
-  -- the slots up to the count are the rows
-  listed : (all : List Row) (leaving : Row → Bool) → Staying all leaving held count t → take count held ≡ all
-  listed all leaving staying = rw (staying.count_is, staying.held_is) (take-append_seam all _)
+  pub still_is : (row : Row) {found : Bool} → HeldIs t.jobs t.line.count row.job found → found ≡ still row
+  still_is row is = is (line_of (stay leaving all)) (line_long (stay leaving all) ∙ sym staying.left_is) staying.jobs_are
 
-  pub jobs_asked : AskStay held count t → AskJobs t.line.count
-  jobs_asked ask =
-      let staying = ask.staying in
-      omega (arith, length_keep (λ row. not (ask.leaving row)) ask.rows, staying.few, staying.left_is)
+  pub still_are : filter still (take count held) ≡ stay leaving all
+  still_are =
+      ap (filter still) (rw (staying.count_is, staying.held_is) (take-append_seam all _))
+      ∙ filter_keep still all
+      ∙ keep_same still (λ row. not (leaving row)) all λ row m.
+      any_line (of_job row.job) (stay leaving all) ∙ stays_with_its_job leaving all staying.whole m
 
-  -- One row more.
-  module _
-      {rows : List Row} {kept i : ℕ} (sofar : StayedSo held count t rows kept i) (below : i < length (take count held))
-      {found : Bool} (is : HeldIs t.jobs t.line.count (get_or (take count held) i no_row).job found) where
-    -- the row at its index, if it stays
-    one_more :
-        (all : List Row) (leaving : Row → Bool) → Staying all leaving held count t →
-        stay leaving (take (i + 1) all) ≡ stay leaving (take i all) ++ cons_if found (get_or (take count held) i no_row) []
-    one_more all leaving staying =
-        let same = listed all leaving staying in
-        let here = stay leaving all in
-        let there : i < length all = omega (arith, ap length same) in
-        let found_is : found ≡ not (leaving (get_or all i no_row))
-        = is (line_of here) (line_long here ∙ sym staying.left_is) staying.jobs_are
-        ∙ any_line (of_job (get_or (take count held) i no_row).job) here
-        ∙ ap (λ l. any_of (of_job (get_or l i no_row).job) here) same
-        ∙ stays_with_its_job leaving all staying.whole (get_or_mem all i no_row there) in
-        rw (same, found_is)
-        (ap (λ n. stay leaving (take n all)) (add-one i)
-        ∙ ap (stay leaving) (take-suc all i no_row there)
-        ∙ keep_append (λ row. not (leaving row)) (take i all) (get_or all i no_row ∷ []))
+  pub still_few : length (filter still (take count held)) ≤ row_limit
+  still_few = omega (arith, ap length still_are, length_keep (λ row. not (leaving row)) all, staying.few)
 
-    pub stayed_gone : found ≡ false → StayedSo held count t rows kept (i + 1)
-    stayed_gone e =
-        let same : (all : List Row) (leaving : Row → Bool) → Staying all leaving held count t →
-        stay leaving (take i all) ≡ stay leaving (take (i + 1) all)
-        = λ all leaving staying. sym (rw e at one_more all leaving staying ∙ append-nil (stay leaving (take i all))) in
-        record {
-          kept_few = omega (arith, sofar.kept_few);
-          kept_is = λ all leaving staying. sofar.kept_is all leaving staying ∙ ap length (same all leaving staying);
-          rows_are = λ all leaving staying. sofar.rows_are all leaving staying ∙ ap (slots row_limit) (same all leaving staying);
-        }
+  -- as a chain gives them, each with its number among them
+  pub chain :
+      {F : Type 0} (g : Mut F (Bor (Bor Row) × Unit {0}) Bool) {f : F} {passing : Filter (Iter Row) F} {numbered s : Enumerate (Filter (Iter Row) F)} →
+      iter_rest (filter_source passing) ≡ take count held → filter_callee passing ≡ f →
+      ((row : Bor Row) (b : Bool) (q : F) → CalledAt g f row b q → (q ≡ f) × HeldIs t.jobs t.line.count row.now.job b) →
+      enumerate_source numbered ≡ passing → enumerate_count numbered ≡ 0 → s ≡ numbered →
+      YieldsList (enumerate_steps (filter_steps fronts g)) (λ p. (p.0, p.1.now)) s (enumerate_from 0 (filter still (take count held)))
+  chain g source callee computes passing from same =
+      YieldsList-at same
+      (YieldsList-from_enumerate
+      (YieldsList-at passing
+      (YieldsList-from_filter
+      g
+      still
+      (YieldsList-from_slice (take count held) source)
+      callee
+      (λ row b q k. let called = computes row b q k in (called.0, still_is row.now called.1))))
+      from)
 
-    pub stayed_more : found ≡ true → StayedSo held count t (set rows kept (get_or (take count held) i no_row)) (kept + 1) (i + 1)
-    stayed_more e =
-        let row = get_or (take count held) i no_row in
-        let next : (all : List Row) (leaving : Row → Bool) → Staying all leaving held count t →
-        stay leaving (take i all) ++ (row ∷ []) ≡ stay leaving (take (i + 1) all)
-        = λ all leaving staying. sym (rw e at one_more all leaving staying) in
-        record {
-          kept_few = omega (arith, sofar.kept_few);
-          kept_is =
-              λ all leaving staying.
-              ap (λ n. n + 1) (sofar.kept_is all leaving staying)
-              ∙ sym (length-append (stay leaving (take i all)) (row ∷ []))
-              ∙ ap length (next all leaving staying);
-          rows_are =
-              λ all leaving staying.
-              let kept_is = sofar.kept_is all leaving staying in
-              ap (λ l. set l kept row) (sofar.rows_are all leaving staying)
-              ∙ slot_next row_limit (stay leaving (take i all)) row kept_is (omega (arith, sofar.kept_few, ap length (listed all leaving staying), staying.few))
-              ∙ ap (slots row_limit) (next all leaving staying);
-        }
+-- The rows that a chain has yielded, each with its number among them.
+abbrev pub yielded_rows : List (ℕ × Bor Row) → List Row
+yielded_rows yielded = map (λ p. p.1.now) yielded
+
+module _ {rows : List Row} (yielded : List (ℕ × Bor Row)) (so_far : rows ≡ slots row_limit (yielded_rows yielded)) (staying : List Row) where
+  pub one_more :
+      (kept : ℕ) (row : Bor Row) → length staying ≤ row_limit →
+      (length yielded < length (enumerate_from 0 staying)) × ((kept, row.now) ≡ get_or (enumerate_from 0 staying) (length yielded) (kept, row.now)) →
+      set rows kept row.now ≡ slots row_limit (yielded_rows (yielded ++ ((kept, row) ∷ [])))
+  one_more kept row few turn =
+      let there : length yielded < length staying = omega (arith, turn.0, length-enumerate_from 0 staying) in
+      let number = ap (λ p. p.0) (turn.1 ∙ get_or-enumerate_from 0 staying (length yielded) (kept, row.now) there) in
+      let long = length-map yielded (λ p. p.1.now) in
+      ap (λ l. set l kept row.now) so_far
+      ∙ slot_next row_limit (yielded_rows yielded) row.now (omega (arith, number, long)) (omega (arith, long))
+      ∙ ap (slots row_limit) (sym (map-append (λ p. p.1.now) yielded ((kept, row) ∷ [])))
+
+  pub all_yielded : map (λ p. (p.0, p.1.now)) yielded ≡ enumerate_from 0 staying → rows ≡ slots row_limit staying
+  all_yielded is =
+      so_far
+      ∙ ap (slots row_limit) (sym (map-map {B = ℕ × Row} (λ p. p.1) (λ p. (p.0, p.1.now)) yielded) ∙ ap (map (λ p. p.1)) is ∙ rows_of 0 staying)
+    where
+      rows_of : (n : ℕ) (l : List Row) → map (λ p. p.1) (enumerate_from n l) ≡ l
+      rows_of n [] = refl
+      rows_of n (row ∷ l) = ap (λ x. row ∷ x) (rows_of (n + 1) l)

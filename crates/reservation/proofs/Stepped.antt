@@ -30,7 +30,8 @@ use Rattle.reservation.specs.declared.Register.TheInside.{Inside}
 use Rattle.reservation.specs.Registers.{state_of, register_of}
 use Rattle.reservation.specs.Calls.{Steps}
 use Rattle.reservation.specs.Parts.{Leaves, Joining, AskMore, MoreIs, Staying, StayIs}
-use Rattle.reservation.proofs.Values.{FieldsOf, count_is}
+use Rattle.reservation.specs.Fields.{state_kept, standing_of, Kept}
+use Rattle.reservation.proofs.Values.{FieldsOf, kept_fields, fields_stand, count_is}
 
 -- a refusal leaves the very same register
 pub refused_steps :
@@ -40,16 +41,17 @@ refused_steps r c (Ok it) is refused = clash refl refused
 refused_steps r c (Err why) is refused =
     record { answer_is = is; left_is = sym (ap (register_of r.setup) (refused_left r.setup (state_of r) c why (sym is))) }
 
+-- what is left with the timetable and the rows
+abbrev pub left_with : Inside → Timetable → List Row → Inside
+left_with a t rows = record { setup = a.setup; timetable = t; rows = rows }
+
 -- A call over the timetable leaves the fields of the register that the rules leave, if the slots hold its rows.
 module _
     {r : Register} {a : Inside} (of : FieldsOf r a) {c : Call} {t : Timetable} {answer : Result Admission Refusal}
     (goes : Goes r.setup (state_of r) c t answer) where
-  abbrev left_with : List Row → Inside
-  left_with rows = record { setup = a.setup; timetable = t; rows = rows }
-
   goes_fields :
       {rows : List Row} → rows ≡ slots row_limit (step r.setup (state_of r) c).left.rows →
-      FieldsOf (register_of r.setup (step r.setup (state_of r) c).left) (left_with rows)
+      FieldsOf (register_of r.setup (step r.setup (state_of r) c).left) (left_with a t rows)
   goes_fields rows_are = record { setup_is = of.setup_is; timetable = goes.left; rows_are = rows_are }
 
   -- that rows leave with
@@ -66,7 +68,7 @@ module _
 
     pub removed_fields :
         {rows : List Row} → StayIs a.rows a.timetable.line.count t rows →
-        FieldsOf (register_of r.setup (step r.setup (state_of r) c).left) (left_with rows)
+        FieldsOf (register_of r.setup (step r.setup (state_of r) c).left) (left_with a t rows)
     removed_fields is = goes_fields (is r.state.rows leaves.leaving staying ∙ ap (slots row_limit) (sym leaves.rows_are))
 
 -- what is no refusal
@@ -76,37 +78,44 @@ admission_of (Err why) e = clash e refl
 
 -- A submission over the timetable, accepted.
 module _
-    {r : Register} {a : Inside} (of : FieldsOf r a) {j : Job} {own : List Entry} {t : Timetable} {answer : Result Admission Refusal}
-    (is : SubmitIs a.timetable r.setup j t own answer) (admitted : is_ok answer ≡ true) where
-  pub goes_there : Goes r.setup (state_of r) (submits j) t answer
-  goes_there = is.is r.state of.timetable
+    {a : Inside} (kept : Kept a) {j : Job} {own : List Entry} {t : Timetable} {answer : Result Admission Refusal}
+    (is : SubmitIs a.timetable a.setup j t own answer) (admitted : is_ok answer ≡ true) where
+  abbrev rows : List Row
+  rows = (state_kept a).rows
 
-  found : let it = admission_of answer admitted in Found r.setup r.state j own it.0
-  found = let it = admission_of answer admitted in is.found it.0 it.1 r.state of.timetable
+  of : FieldsOf (standing_of a) a
+  of = kept_fields kept refl
 
-  joining : Joining r.setup r.state.rows found.new a.rows a.timetable.line.count own j.number
+  goes_there : Goes a.setup (state_kept a) (submits j) t answer
+  goes_there = is.is _ of.timetable
+
+  found : let it = admission_of answer admitted in Found a.setup (state_kept a) j own it.0
+  found = let it = admission_of answer admitted in is.found it.0 it.1 _ of.timetable
+
+  joining : Joining a.setup rows found.new a.rows a.timetable.line.count own j.number
   joining = record {
     sound = of.timetable.sound;
     held_is = of.rows_are;
     count_is = count_is of;
-    few = found.few;
-    fits = omega (arith, goes_there.left.bounded.count, ap length found.rows_are, length-append r.state.rows found.new);
+    fits = omega (arith, goes_there.left.bounded.count, ap length found.rows_are, length-append rows found.new);
     in_range = found.in_range;
     one_job = found.one_job;
     own_is = found.own_is;
   }
 
   pub admitted_asked : AskMore a.rows a.timetable.line.count own j.number
-  admitted_asked = record { setup = r.setup; rows = r.state.rows; new = found.new; joining = joining }
-
-  pub admitted_fields :
-      {rows : List Row} → MoreIs a.rows a.timetable.line.count own j.number rows →
-      FieldsOf (register_of r.setup (step r.setup (state_of r) (submits j)).left) (left_with of goes_there rows)
-  admitted_fields more = goes_fields of goes_there (more r.setup r.state.rows found.new joining ∙ ap (slots row_limit) (sym found.rows_are))
+  admitted_asked = record { setup = a.setup; rows = rows; new = found.new; joining = joining }
 
   -- the number of an admitted job fits its column
   pub admitted_number : j.number ≤ largest_number
   admitted_number =
       let number_is = sym (ap (λ a. a.number) goes_there.answer_is) ∙ ap (λ a. (answered a).number) (admission_of answer admitted).1 in
-      let job = (demand_2 r.setup (state_of r) j).admitted.0 number_is in
+      let job = (demand_2 a.setup (state_kept a) j).admitted.0 number_is in
       (in_between 1 largest_number j.number job.1.in_range.number).1
+
+  module _ {left : List Row} (more : MoreIs a.rows a.timetable.line.count own j.number left) where
+    pub admitted_fields : FieldsOf (register_of a.setup (step a.setup (state_kept a) (submits j)).left) (left_with a t left)
+    admitted_fields = goes_fields of goes_there (more a.setup rows found.new joining ∙ ap (slots row_limit) (sym found.rows_are))
+
+    pub admitted_steps : Steps (standing_of a) (submits j) (record { answer = answer; register = standing_of (left_with a t left) })
+    admitted_steps = record { answer_is = goes_there.answer_is; left_is = fields_stand admitted_fields }

@@ -40,6 +40,9 @@ kept_fields {a} {v} kept is =
       rows_are = ap (λ x. x.rows) are;
     }
 
+pub timetable_kept : {a : Inside} {v : Register} → Kept a → standing_of a ≡ v → TimetableOf v.setup v.state a.timetable
+timetable_kept kept is = (kept_fields kept is).timetable
+
 module _ {v : Register} {a : Inside} (of : FieldsOf v a) where
   fields_are : a ≡ fields_of v
   fields_are = λ i. record { setup = of.setup_is i; timetable = of.timetable.is i; rows = of.rows_are i }

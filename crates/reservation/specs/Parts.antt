@@ -9,7 +9,7 @@ use Rattle.rules.specs.Sequences.{keep}
 use Rattle.rules.specs.Words.{State, row_limit}
 use Rattle.rules.specs.Bounds.{Sound, RowInRange}
 use Rattle.rules.specs.Refusals.{Call, step}
-use Rattle.timeline.specs.RowLine.{most_own, line_of, slots}
+use Rattle.timeline.specs.RowLine.{line_of, slots}
 use Rattle.placement.specs.declared.own.Entry.{Entry}
 use Rattle.placement.specs.Own.{OwnRows}
 use Rattle.timetable.specs.declared.Timetable.{Timetable}
@@ -27,7 +27,6 @@ pub record Joining (s : Setup) (rows new : List Row) (held : List Row) (count : 
   pub sound : Sound s
   pub held_is : held ≡ slots row_limit rows
   pub count_is : count ≡ length rows
-  pub few : length new ≤ most_own
   pub fits : length rows + length new ≤ row_limit
   pub in_range : (row : Row) → Memᴰ row new → RowInRange s row
   pub one_job : (row : Row) → Memᴰ row new → row.job ≡ job

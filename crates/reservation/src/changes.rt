@@ -9,14 +9,14 @@ use rules::answers::{Admission, Refusal};
 use rules::{Job, ROWS, Row};
 use timetable::Timetable;
 
-// The rows with those of an admitted job behind them.
+// The rows with those of an admitted job behind them. By index, since no clause says what became of rows after an adapter of `iter_mut`.
 fn with_rows(held: [Row; ROWS], count: usize, own: &[Entry], job: u16) -> [Row; ROWS]
     requires { AskMore held count own.now job }
     ensures { MoreIs held count own.now job result }
 {
     let mut rows = held;
     for (i, entry) in own.iter().enumerate() {
-        rows[count + i] = entry.row(job);
+        rows[count + i] = entry.booking.row(job);
     }
     rows
 }
@@ -27,12 +27,12 @@ fn still_held(held: [Row; ROWS], count: usize, timetable: &Timetable) -> [Row; R
     ensures { StayIs held count timetable.now result }
 {
     let mut rows = [Row::default(); ROWS];
-    let mut kept = 0;
-    for row in &held[..count] {
-        if timetable.is_held(row.job) {
-            rows[kept] = *row;
-            kept += 1;
-        }
+    for (kept, row) in held[..count]
+        .iter()
+        .filter(|row| timetable.is_held(row.job))
+        .enumerate()
+    {
+        rows[kept] = *row;
     }
     rows
 }
@@ -81,7 +81,7 @@ impl Register {
         Reply { answer, register }
     }
 
-    // A job that is held and has not begun leaves.
+    // A job that is held and has not begun leaves. One function for this and the next would take the step with a contract of its own, and be no plainer.
     pub fn withdraw(self, number: u64) -> Reply
         ensures { Withdraws self number result }
     {

@@ -1,5 +1,5 @@
-// The register: booked rows, a clock and a total, changed by calls alone. A call is made over the timetable (`timetable`, `admission`); then a function here makes
-// the register that is left.
+// The register: booked rows, a clock and a total, changed by calls alone. A call is made over the timetable (`timetable`, `admission`).
+// Then a function here makes the register that is left.
 #![tactic(auto)]
 
 pub mod calls;
@@ -17,8 +17,9 @@ use rules::{HORIZON, MESSAGES, ROWS, Row, Setup, TASKS};
 use std::marker::Model;
 use timetable::Timetable;
 
-// A register is what it was opened with, its clock, its rows in the order of their admission, and its total. The timetable is kept so that a call need not look
-// through the rows: it is made of them, and what is not used is blank, so that equal registers are equal values.
+// A register is what it was opened with, its clock, its rows in the order of their admission, and its total.
+// The timetable is kept so that a call need not look through the rows: it is made of them.
+// The rows stand apart from their count, since the kit's vector of fixed capacity is not `Copy`. Unused slots are blank, so equal registers are equal values.
 #[derive(Clone, Copy)]
 pub struct Register {
     setup: Setup,

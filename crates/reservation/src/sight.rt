@@ -2,7 +2,6 @@
 ghost use Rattle.reservation.specs.Calls.{Looks};
 
 use crate::Register;
-use placement::own::Entry;
 use rules::{HORIZON, Seen};
 use timeline::TICKS;
 
@@ -25,15 +24,6 @@ impl Register {
         if at == line.count() || place < line.span(at).0 {
             return Seen::Idle;
         }
-        let (begin, end) = line.span(at);
-        let note = timetable.notes[at];
-        let entry = Entry {
-            at,
-            begin,
-            end,
-            holder: note.holder,
-            cost: note.cost,
-        };
-        Seen::Booked(entry.row(timetable.jobs[at]))
+        Seen::Booked(timetable.row(at))
     }
 }

@@ -12,9 +12,8 @@ use Rattle.rules.specs.Sequences.{joined}
 use Rattle.rules.specs.Words.{State, row_limit}
 use Rattle.rules.specs.Placing.{no_row}
 use Rattle.timeline.specs.RowLine.{line_of}
-use Rattle.placement.specs.Own.{RowIs}
 use Rattle.timetable.specs.declared.Timetable.{Timetable}
-use Rattle.timetable.specs.Timetables.{TimetableOf}
+use Rattle.timetable.specs.Timetables.{TimetableOf, RowAtIs}
 use Rattle.lines.specs.Put.{Puts}
 use Rattle.lines.proofs.Put.{puts_then}
 use Rattle.script.specs.Listing.{row_bytes, sorted, heading, listing}
@@ -22,7 +21,6 @@ use Rattle.script.specs.Parts.{AskRows, PutsRows, PutsListing, PutsAtMost, most_
 use Rattle.script.proofs.Fields.{PutWithin, within_then}
 use Rattle.script.proofs.TimelineOrder.{sorted_line}
 use Rattle.timetable.proofs.Standing.{count_is, few_held}
-use Rattle.script.proofs.Held.{entry_there, row_is}
 
 joined_append : (a b : List (List ℕ)) → joined (a ++ b) ≡ joined a ++ joined b
 joined_append [] b = refl
@@ -51,14 +49,14 @@ module _ {old : List ℕ} {at : ℕ} {t : Timetable} (asked : AskRows old at t) 
 
   module _ {new : List ℕ} {next k : ℕ} (l : RowsListed old at t new next k) where
     pub rows_more :
-        k < t.line.count → {row : Row} → RowIs (entry_there t k) (get_or t.jobs k 0) row → {new' : List ℕ} {last : ℕ} →
+        k < t.line.count → {row : Row} → RowAtIs t k row → {new' : List ℕ} {last : ℕ} →
         PutsAtMost new next (row_bytes row) new' last most_row → RowsListed old at t new' last (k + 1)
     rows_more h made {new'} {last} p = record {
       at_most = omega arith;
       follows = λ s st of.
           let line = line_of st.rows in
           let row = get_or line k no_row in
-          let q = subst (λ r. PutsAtMost new next (row_bytes r) new' last most_row) (row_is of k h made) p in
+          let q = subst (λ r. PutsAtMost new next (row_bytes r) new' last most_row) (made s st of) p in
           let more =
           within_then (row_bytes row) most_row (omega (arith, asked.room, asked_few)) (l.follows s st of) q.puts q.short
           in

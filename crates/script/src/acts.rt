@@ -92,17 +92,11 @@ pub fn next_act(input: &[u8], at: usize, job: &mut Job) -> Result<Reading<Kind>,
     }
     if rest.starts_with(WITHDRAW) {
         let number = figure_act(input, at + WITHDRAW.len(), Key::Job)?;
-        return Ok(Reading {
-            value: Kind::Withdraw(number.value),
-            next: number.next,
-        });
+        return Ok(number.map(|number| Kind::Withdraw(number)));
     }
     if rest.starts_with(CLOCK) {
         let tick = figure_act(input, at + CLOCK.len(), Key::Tick)?;
-        return Ok(Reading {
-            value: Kind::Advance(tick.value),
-            next: tick.next,
-        });
+        return Ok(tick.map(|tick| Kind::Advance(tick)));
     }
     Err(Stop::NoAct)
 }

@@ -4,7 +4,6 @@ ghost use Rattle.script.specs.Listing.{task_listed, message_listed, row_bytes, h
 ghost use Rattle.script.specs.Parts.{PutsAtMost, most_heading, span_listed, most_span, most_row, AskRows, PutsRows, AskListing, PutsListing};
 
 use crate::output::put_any_field;
-use placement::own::Entry;
 use rules::{Holder, Row};
 use timetable::Timetable;
 
@@ -31,9 +30,9 @@ fn put_task_row(output: &mut [u8], at: usize, machine: u64, task: u64, row: Row)
     ensures { PutsAtMost output.old at (task_listed machine task row) output.new result most_row }
 {
     let at1 = put_any_field(output, at, b"machine=", machine);
-    let at2 = put_any_field(output, at1, b"job=", row.job as u64);
+    let at2 = put_any_field(output, at1, b"job=", u64::from(row.job));
     let at3 = put_any_field(output, at2, b"task=", task);
-    put_span(output, at3, row.start as u64, row.finish as u64)
+    put_span(output, at3, u64::from(row.start), u64::from(row.finish))
 }
 
 fn put_message_row(
@@ -50,10 +49,10 @@ fn put_message_row(
 {
     let at1 = put_any_field(output, at, b"link=", source);
     let at2 = put_any_field(output, at1, b"to=", target);
-    let at3 = put_any_field(output, at2, b"job=", row.job as u64);
+    let at3 = put_any_field(output, at2, b"job=", u64::from(row.job));
     let at4 = put_any_field(output, at3, b"from=", sender);
     let at5 = put_any_field(output, at4, b"task=", receiver);
-    put_span(output, at5, row.start as u64, row.finish as u64)
+    put_span(output, at5, u64::from(row.start), u64::from(row.finish))
 }
 
 fn put_row(output: &mut [u8], at: usize, row: Row) -> usize
@@ -64,8 +63,8 @@ fn put_row(output: &mut [u8], at: usize, row: Row) -> usize
         Holder::TaskOn { machine, task } => put_task_row(
             output,
             at,
-            machine as u64,
-            task as u64,
+            u64::from(machine),
+            u64::from(task),
             row,
         ),
         Holder::MessageOn {
@@ -76,10 +75,10 @@ fn put_row(output: &mut [u8], at: usize, row: Row) -> usize
         } => put_message_row(
             output,
             at,
-            source as u64,
-            target as u64,
-            sender as u64,
-            receiver as u64,
+            u64::from(source),
+            u64::from(target),
+            u64::from(sender),
+            u64::from(receiver),
             row,
         ),
     }
@@ -92,16 +91,7 @@ fn put_rows(output: &mut [u8], at: usize, timetable: &Timetable) -> usize
 {
     let mut next = at;
     for k in 0..timetable.line.count() {
-        let (begin, end) = timetable.line.span(k);
-        let note = timetable.notes[k];
-        let entry = Entry {
-            at: k,
-            begin,
-            end,
-            holder: note.holder,
-            cost: note.cost,
-        };
-        next = put_row(output, next, entry.row(timetable.jobs[k]));
+        next = put_row(output, next, timetable.row(k));
     }
     next
 }

@@ -1,9 +1,8 @@
 -- A reader must believe this: document 01, "The tally": the submissions that arrived, those admitted, and their ratio.
 use Rattle.std.specs.Prelude.{◌≡◌, Bool, ◌||◌, cond, ℕ, ◌+◌, ◌*◌, ◌/◌, ltb, eqb, Option, Some, None}
-use Rattle.std.proofs.Math.Option as Maybe
 use Rattle.std.proofs.Math.Option.{none, some}
 use Rattle.rules.specs.declared.Job.{Job}
-use Rattle.rules.specs.Answers.{answered}
+use Rattle.rules.specs.Answers.{answered, option_of}
 use Rattle.rules.specs.Refusals.{accepted}
 use Rattle.reservation.specs.declared.Register.{Register}
 use Rattle.reservation.specs.declared.Reply.{Reply}
@@ -25,14 +24,10 @@ pub record SubmitsCounted (before : Tally) (r : Register) (j : Job) (after : Tal
   pub submits : Submits r j result
   pub tally_is : after ≡ counted before (accepted (answered result.answer))
 
--- 01's number and value for each case of a ratio
+-- 01's number for each case of a ratio
 abbrev pub ratio_number : Option ℕ → ℕ
 ratio_number (Some parts) = 0
 ratio_number None = 18
-
-abbrev pub ratio_value : Option ℕ → Maybe.Option ℕ
-ratio_value (Some parts) = some parts
-ratio_value None = none
 
 -- 18: arrived is 0, or below admitted.
 abbrev pub no_ratio : Tally → Bool
@@ -41,4 +36,4 @@ no_ratio t = eqb t.arrived 0 || ltb t.arrived t.admitted
 -- The guarantee ratio: 10,000 times admitted, divided by arrived, rounded down.
 pub record RatioIs (t : Tally) (r : Option ℕ) : Type 0 where
   pub number_is : ratio_number r ≡ cond (no_ratio t) 18 0
-  pub value_is : ratio_value r ≡ cond (no_ratio t) none (some (10_000 * t.admitted / t.arrived))
+  pub value_is : option_of r ≡ cond (no_ratio t) none (some (10_000 * t.admitted / t.arrived))

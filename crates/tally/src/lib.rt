@@ -8,7 +8,7 @@ use reservation::{Register, Reply};
 use rules::Job;
 
 // How many submissions arrived, and how many of them were accepted.
-#[derive(Clone, Copy, PartialEq, Eq)]
+#[derive(Clone, Copy, PartialEq, Eq, Default)]
 pub struct Tally {
     pub arrived: u32,
     pub admitted: u32,

@@ -10,4 +10,4 @@ pub invariant_of-register : goal.invariant_of-register
 invariant_of-register c =
     let asked = c.requires in
     let of = kept_fields c.self.invariant c.self.view_is in
-    fields_kept (removed_fields of asked.goes asked.leaves (rw c.count.ensures at c.still_held-rows.ensures))
+    fields_kept (removed_fields of asked.goes asked.leaves (rw c.count.ensures.is at c.still_held-rows.ensures))

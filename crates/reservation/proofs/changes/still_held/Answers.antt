@@ -1,14 +1,49 @@
--- `reservation::changes::still_held` meets its contract: after some rows the slots hold those of them that stay.
-use Rattle.reservation.proofs.Staying.{jobs_asked, stayed_gone, stayed_more}
+-- `reservation::changes::still_held` meets its contract: the slots hold the rows that the chain has yielded, and in the end it has yielded those that stay.
+use Rattle.std.proofs.Common.{rules}
+use Rattle.std.proofs.lemmas.Iterator.Consumers.{YieldsList-turn, YieldsList-end}
+use Rattle.reservation.proofs.Staying.{still_are, still_few, chain, one_more, all_yielded}
 use Rattle.reservation.proofs.changes.still_held.Goals as goal
-use Rattle.reservation.proofs.changes.still_held.Goals.{else-is_held, then-is_held}
 
-pub is_held-requires : goal.is_held-requires
-is_held-requires c = jobs_asked c.requires
+pub loop-kept-preserved : goal.loop-kept-preserved
+loop-kept-preserved c =
+    let staying = c.requires.staying in
+    let turn = YieldsList-turn
+    (chain
+    staying
+    _
+    (cc)
+    c.filter.ensures.closure
+    (λ row b q k. search rules)
+    c.enumerate-kept-items.ensures.source
+    (cc)
+    c.into_iter-kept-iterator.ensures.into_iter_gives)
+    c.loop-kept.yielded
+    _
+    c.loop-kept.yielded_by
+    _
+    _
+    (c.in-Some.kept, c.in-Some.row)
+    c.in-Some.is
+    c.next.ensures.steps in
+    one_more c.loop-kept.yielded c.loop-kept.invariant _ _ _ (still_few staying) turn
 
-pub loop-row-preserved : goal.loop-row-preserved
-loop-row-preserved c =
-    elim c.if-is_held.branch [
-      | then-is_held w ↦ rw (w.rows-is, w.kept-is) (stayed_more c.loop-row.invariant c.loop-row-test.true c.is_held.ensures w.if-is_held.true)
-      | else-is_held w ↦ rw (w.rows-is, w.kept-is) (stayed_gone c.loop-row.invariant c.loop-row-test.true c.is_held.ensures w.if-is_held.false)
-    ]
+pub returns : goal.returns
+returns c all leaving staying =
+    let seen = YieldsList-end
+    (chain
+    staying
+    _
+    (cc)
+    c.filter.ensures.closure
+    (λ row b q k. search rules)
+    c.enumerate-kept-items.ensures.source
+    (cc)
+    c.into_iter-kept-iterator.ensures.into_iter_gives)
+    c.loop-kept.yielded
+    _
+    c.loop-kept.yielded_by
+    _
+    _
+    c.in-None.is
+    c.next.ensures.steps in
+    all_yielded c.loop-kept.yielded c.loop-kept.invariant _ (rw (still_are staying) at seen.0)

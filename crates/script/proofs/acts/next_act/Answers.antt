@@ -1,11 +1,12 @@
 -- `script::acts::next_act` meets its contract: the act line decides.
-use Rattle.std.proofs.Common.{◌≡◌, ◌+◌, false, length, drop, ◌∙◌, sym}
+use Rattle.std.proofs.Common.{◌≡◌, ◌+◌, false, length, drop, ◌∙◌, sym, rules}
 use Rattle.std.proofs.lemmas.List.{take_rest}
 use Rattle.std.proofs.lemmas.Result.{err_from_is_err_and}
 use Rattle.rules.specs.Refusals.{withdraws, advances}
 use Rattle.lines.specs.Lines.{begins}
 use Rattle.lines.proofs.Begun.{begins_is}
 use Rattle.texts.specs.Reader.{default_machines}
+use Rattle.script.specs.declared.acts.Kind.TheVariants.{Withdraw, Advance}
 use Rattle.script.specs.Acts.{number_act, act, submit_line, withdraw_line, clock_line}
 use Rattle.script.specs.Keys.{job_key, tick_key}
 use Rattle.script.proofs.Acted.{at_submit, at_withdraw, at_clock, no_act}
@@ -52,7 +53,9 @@ returns-in_err-number c =
     rw (stop.1, stop.2) (c.in_err-number.ensures withdraws ∙ sym (withdraw_there (goal.at.returns-in_err-number c).Then-starts_with-2))
 
 pub returns-then-starts_with-2 : goal.returns-then-starts_with-2
-returns-then-starts_with-2 c = c.in_ok-number.ensures withdraws ∙ sym (withdraw_there (goal.at.returns-then-starts_with-2 c).Then-starts_with-2)
+returns-then-starts_with-2 c =
+    let said : c.map.result.value ≡ Withdraw c.in_ok-number.number.value = search rules in
+    rw (said, c.map.ensures.next) (c.in_ok-number.ensures withdraws ∙ sym (withdraw_there (goal.at.returns-then-starts_with-2 c).Then-starts_with-2))
 
 pub returns-in_err-tick : goal.returns-in_err-tick
 returns-in_err-tick c =
@@ -60,7 +63,9 @@ returns-in_err-tick c =
     rw (stop.1, stop.2) (c.in_err-tick.ensures advances ∙ sym (clock_there (goal.at.returns-in_err-tick c).Then-starts_with-3))
 
 pub returns-then-starts_with-3 : goal.returns-then-starts_with-3
-returns-then-starts_with-3 c = c.in_ok-tick.ensures advances ∙ sym (clock_there (goal.at.returns-then-starts_with-3 c).Then-starts_with-3)
+returns-then-starts_with-3 c =
+    let said : c.map-then-starts_with-3.result.value ≡ Advance c.in_ok-tick.tick.value = search rules in
+    rw (said, c.map-then-starts_with-3.ensures.next) (c.in_ok-tick.ensures advances ∙ sym (clock_there (goal.at.returns-then-starts_with-3 c).Then-starts_with-3))
 
 pub returns : goal.returns
 returns c =

@@ -6,4 +6,4 @@ use Rattle.script.proofs.listing.put_listing.Goals as goal
 pub returns : goal.returns
 returns c =
     let room = c.requires.room in
-    whole_listing (omega arith) c.count-held.ensures c.put_heading-start.ensures.puts c.put_rows.ensures
+    whole_listing (omega arith) c.count-held.ensures.is c.put_heading-start.ensures.puts c.put_rows.ensures

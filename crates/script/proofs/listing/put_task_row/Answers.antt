@@ -16,9 +16,9 @@ written c =
     let a = c.args in
     let room = c.requires in
     let one = first_field machine_key (omega arith) c.put_any_field-at1.ensures in
-    let two = within_field job_key (omega arith) one c.put_any_field-at2.ensures in
+    let two = within_field job_key (omega arith) one (rw c.from.ensures at c.put_any_field-at2.ensures) in
     let three = within_field task_key (omega arith) two c.put_any_field-at3.ensures in
-    within_two (field start_key a.row.start) (field finish_key a.row.finish) most_span (omega arith) three c.put_span.ensures
+    within_two (field start_key a.row.start) (field finish_key a.row.finish) most_span (omega arith) three (rw (c.from-2.ensures, c.from-3.ensures) at c.put_span.ensures)
 
 pub returns : goal.returns
 returns c = let w = written (goal.at.returns c).After-put_span in record { puts = w.puts; short = let s = w.short in omega arith }

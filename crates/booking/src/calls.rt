@@ -1,4 +1,6 @@
 // Calls that print their answers and hand on the register that they leave. What a refusal leaves is checked.
+#![tactic(auto, using(crate::proofs::Leaving::untouched_by))]
+
 ghost use Rattle.booking.specs.Untouched.{Untouched};
 
 use crate::printing::{print_answer, print_seen};

@@ -1,6 +1,6 @@
 // Submissions in a row with one tally: its counters and their ratio before the first and after each.
 use crate::calls::fresh;
-use crate::printing::{heading, print_answer};
+use crate::printing::print_answer;
 use builder::alone;
 use console::Console;
 use rules::{Answer, Job};
@@ -35,7 +35,7 @@ fn counted(out: &mut Console, arrived: u32, admitted: u32, jobs: &[Job]) {
 
 // Submissions that are accepted, refused 5, accepted, refused 1, refused 6 and accepted.
 pub fn from_nothing(out: &mut Console) {
-    heading(out, b"tally");
+    out.println("tally");
     let jobs = [
         alone(7, easy()),
         alone(7, easy()),
@@ -49,7 +49,7 @@ pub fn from_nothing(out: &mut Console) {
 
 // With either counter at its limit neither moves; one below it they move once.
 pub fn at_the_limit(out: &mut Console) {
-    heading(out, b"tally at its limit");
+    out.println("tally at its limit");
     counted(out, MOST, 0, &[alone(7, easy())]);
     counted(out, 5, MOST, &[alone(7, easy())]);
     let accepted = [alone(7, easy()), alone(8, easy())];

@@ -1,6 +1,6 @@
 // A register that is filled, freed in part and filled again.
 use crate::calls::{advance, submit, withdraw};
-use crate::printing::{heading, print_answer, print_state};
+use crate::printing::{print_answer, print_state};
 use builder::{alone, task};
 use console::Console;
 use reservation::{Register, Reply};
@@ -23,7 +23,7 @@ fn fill(out: &mut Console, register: Register, first: u64, end: u64) -> Register
 
 // 8: with 255 rows a job of one row fits, with 256 it does not.
 pub fn filled(out: &mut Console, register: Register) -> Register {
-    heading(out, b"filled");
+    out.println("filled");
     let mut left = fill(out, register, 1, 255);
     print_state(out, left);
     left = submit(out, left, three_rows(1_000));
@@ -42,7 +42,7 @@ pub fn filled(out: &mut Console, register: Register) -> Register {
 
 // Freed rows serve later jobs.
 pub fn refilled(out: &mut Console, register: Register) -> Register {
-    heading(out, b"refilled");
+    out.println("refilled");
     let mut left = withdraw(out, register, 1);
     left = withdraw(out, left, 128);
     left = withdraw(out, left, 256);
@@ -63,7 +63,7 @@ pub fn refilled(out: &mut Console, register: Register) -> Register {
 }
 
 pub fn emptied(out: &mut Console, register: Register) -> Register {
-    heading(out, b"emptied");
+    out.println("emptied");
     let mut left = advance(out, register, 999_999_999);
     print_state(out, left);
     left = submit(out, left, alone(1, task(1_000_000_000, 0, [1, 0, 0, 0])));

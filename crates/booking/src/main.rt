@@ -14,11 +14,9 @@ use counting::{at_the_limit, from_nothing};
 use examples::{jobs_at_limits, worked_examples};
 use filling::{emptied, filled, refilled};
 use printing::{print_register, print_state};
-use refusals::{
-    by_counts, by_figures, by_figures_of_tasks, by_messages, by_order, by_turns, looks,
-    of_advances, of_withdrawals,
-};
+use refusals::{by_counts, by_figures, by_jobs, by_turns, looks, of_advances, of_withdrawals};
 use std::process::ExitCode;
+use workload::refused::{by_last_task, by_messages, by_order};
 
 // One register after the worked examples: each part is handed what the last one left. The tally's parts have registers of their own.
 fn main(rt: HostRuntime) -> ExitCode {
@@ -29,9 +27,12 @@ fn main(rt: HostRuntime) -> ExitCode {
     let mut left = fresh();
     left = by_counts(out, left);
     left = by_figures(out, left);
-    left = by_figures_of_tasks(out, left);
-    left = by_messages(out, left);
-    left = by_order(out, left);
+    // Refusal 3, in the last task of the largest job.
+    left = by_jobs(out, left, "figures of tasks", &by_last_task());
+    // Refusal 4.
+    left = by_jobs(out, left, "messages", &by_messages());
+    // Jobs that break two or three rules: the first rule answers.
+    left = by_jobs(out, left, "order", &by_order());
     left = by_turns(out, left);
     left = of_withdrawals(out, left);
     looks(out, left);

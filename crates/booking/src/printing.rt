@@ -1,12 +1,7 @@
-// What is printed: a line for each call, row and register.
+// What is printed: a line for each call, row and register. No `Display` does this: a program may not write it for the types of another crate.
 use console::Console;
 use reservation::Register;
 use rules::{Answer, Holder, Row, Seen};
-
-pub fn heading(out: &mut Console, name: &[u8]) {
-    out.write(name);
-    out.write(b"\n");
-}
 
 pub fn print_answer(out: &mut Console, answer: Answer) {
     let Answer {
@@ -18,7 +13,7 @@ pub fn print_answer(out: &mut Console, answer: Answer) {
     out.println(format_args!("answer={number} task={task} cost={cost} rows={rows}"));
 }
 
-fn print_holder(out: &mut Console, holder: Holder, job: u64) {
+fn print_holder(out: &mut Console, holder: Holder, job: u16) {
     match holder {
         Holder::TaskOn { machine, task } => {
             out.print(format_args!("machine={machine} job={job} task={task}"));
@@ -37,13 +32,14 @@ fn print_holder(out: &mut Console, holder: Holder, job: u64) {
 }
 
 fn print_row(out: &mut Console, row: Row) {
-    print_holder(out, row.holder, row.job as u64);
     let Row {
+        holder,
+        job,
         start,
         finish,
         cost,
-        ..
     } = row;
+    print_holder(out, holder, job);
     out.println(format_args!(" start={start} finish={finish} cost={cost}"));
 }
 

@@ -1,6 +1,6 @@
 // Every refusal, and the calls at the limits beside it, on one register.
 use crate::calls::{advance, apply, look, submit, withdraw};
-use crate::printing::{heading, print_state};
+use crate::printing::print_state;
 use builder::alone;
 use console::Console;
 use reservation::Register;
@@ -19,7 +19,7 @@ fn submit_each(out: &mut Console, register: Register, jobs: &[Job]) -> Register 
 
 // 1 and 2.
 pub fn by_counts(out: &mut Console, register: Register) -> Register {
-    heading(out, b"numbers and counts");
+    out.println("numbers and counts");
     let mut left = submit_each(out, register, &refused::by_counts());
     print_state(out, left);
     left = withdraw(out, left, 7);
@@ -29,7 +29,7 @@ pub fn by_counts(out: &mut Console, register: Register) -> Register {
 
 // 3, and 4 by a volume, beside the largest figures.
 pub fn by_figures(out: &mut Console, register: Register) -> Register {
-    heading(out, b"figures");
+    out.println("figures");
     let mut left = submit(out, register, largest(1_000_000));
     print_state(out, left);
     left = withdraw(out, left, 65_535);
@@ -38,33 +38,17 @@ pub fn by_figures(out: &mut Console, register: Register) -> Register {
     left
 }
 
-// 3, in the last task of the largest job.
-pub fn by_figures_of_tasks(out: &mut Console, register: Register) -> Register {
-    heading(out, b"figures of tasks");
-    let left = submit_each(out, register, &refused::by_last_task());
-    print_state(out, left);
-    left
-}
-
-// 4.
-pub fn by_messages(out: &mut Console, register: Register) -> Register {
-    heading(out, b"messages");
-    let left = submit_each(out, register, &refused::by_messages());
-    print_state(out, left);
-    left
-}
-
-// Jobs that break two or three rules: the first rule answers.
-pub fn by_order(out: &mut Console, register: Register) -> Register {
-    heading(out, b"order");
-    let left = submit_each(out, register, &refused::by_order());
+// Jobs that need no other call between them.
+pub fn by_jobs(out: &mut Console, register: Register, name: &str, jobs: &[Job]) -> Register {
+    out.println(name);
+    let left = submit_each(out, register, jobs);
     print_state(out, left);
     left
 }
 
 // 6 names the lowest task, 7 the one at its turn; both compare with the deadline itself.
 pub fn by_turns(out: &mut Console, register: Register) -> Register {
-    heading(out, b"turns");
+    out.println("turns");
     let mut left = submit_each(out, register, &refused::by_turns());
     left = withdraw(out, left, 11);
     left = submit(out, left, refused::pair_with_message());
@@ -74,7 +58,7 @@ pub fn by_turns(out: &mut Console, register: Register) -> Register {
 
 // 9 and 10.
 pub fn of_withdrawals(out: &mut Console, register: Register) -> Register {
-    heading(out, b"withdrawals");
+    out.println("withdrawals");
     let mut left = withdraw(out, register, 0);
     left = withdraw(out, left, u64::MAX);
     left = withdraw(out, left, 12);
@@ -85,10 +69,10 @@ pub fn of_withdrawals(out: &mut Console, register: Register) -> Register {
     left = submit(out, left, alone(12, easy()));
     print_state(out, left);
     left = advance(out, left, 4);
-    of_later_withdrawals(out, left)
+    of_withdrawals_at_four(out, left)
 }
 
-fn of_later_withdrawals(out: &mut Console, register: Register) -> Register {
+fn of_withdrawals_at_four(out: &mut Console, register: Register) -> Register {
     let mut left = withdraw(out, register, 10);
     left = withdraw(out, left, 8);
     left = withdraw(out, left, 12);
@@ -99,7 +83,7 @@ fn of_later_withdrawals(out: &mut Console, register: Register) -> Register {
 
 // Look, and 13.
 pub fn looks(out: &mut Console, register: Register) {
-    heading(out, b"looks");
+    out.println("looks");
     look(out, register, 0, 4);
     look(out, register, 5, 4);
     look(out, register, u64::MAX, u64::MAX);
@@ -119,7 +103,7 @@ fn move_to(out: &mut Console, register: Register, tick: u64) -> Register {
 
 // 11 and 12, by the call of any kind.
 pub fn of_advances(out: &mut Console, register: Register) -> Register {
-    heading(out, b"advances");
+    out.println("advances");
     let mut left = move_to(out, register, 3);
     left = move_to(out, left, 4);
     left = move_to(out, left, 1_000_000_001);
@@ -128,10 +112,10 @@ pub fn of_advances(out: &mut Console, register: Register) -> Register {
     left = apply(out, left, Call::Withdraw(7));
     left = move_to(out, left, 15);
     print_state(out, left);
-    of_later_advances(out, left)
+    of_advances_that_empty(out, left)
 }
 
-fn of_later_advances(out: &mut Console, register: Register) -> Register {
+fn of_advances_that_empty(out: &mut Console, register: Register) -> Register {
     let mut left = move_to(out, register, 21);
     print_state(out, left);
     left = apply(out, left, Call::Submit(job_a(40)));

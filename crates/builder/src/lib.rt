@@ -3,6 +3,7 @@
 
 ghost use Rattle.std.specs.Prelude.{◌≡◌, min, length};
 
+use rules::arrays::filled;
 use rules::{DEFAULT_MACHINES, Job, MACHINES, MESSAGES, Message, TASKS, Task};
 use std::array;
 
@@ -34,7 +35,7 @@ pub fn message(sender: u64, receiver: u64, volume: u64) -> Message
 
 // The items from the start on, and blanks past them.
 fn padded<T: Copy + Default, const N: usize>(items: &[T]) -> [T; N] {
-    array::from_fn(|i| items.get(i).copied().unwrap_or_default())
+    filled(items.len().min(N), |i| items[i])
 }
 
 // A job of these tasks and messages, or of as many of them as it has room for.
@@ -50,16 +51,6 @@ pub fn job(number: u64, tasks: &[Task], messages: &[Message]) -> Job
         tasks: padded(tasks),
         messagecount: messages.len().min(MESSAGES) as u64,
         messages: padded(messages),
-    }
-}
-
-// A job of no task and no message.
-pub fn numbered(number: u64) -> Job
-    ensures { result.number ≡ number }
-{
-    Job {
-        number,
-        ..Job::default()
     }
 }
 

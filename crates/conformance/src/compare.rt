@@ -1,110 +1,101 @@
 // What the two schedulers answered and hold, compared figure by figure. Each function says whether two values are the same, or counts the differences.
-use reference::{Admission, Book, Link, Machine, RefHolder, RefRow, Refusal, Resource, Tables};
+use crate::convert::{converted_row, converted_seen, figures_of};
+use reference::{Admission, Book, Link, Machine, RefRow, Refusal, Resource, Tables};
 use reservation::Register;
 use rules::tables::default_setup;
-use rules::{Answer, Holder, Row, Seen};
+use rules::{Answer, Row, Seen, answers};
+use std::array;
 
-pub fn same_answer(ours: Answer, theirs: Result<Admission, Refusal>) -> bool {
-    let figures = match theirs {
-        Ok(admission) => (0, 0, admission.cost, admission.rows),
-        Err(refusal) => (refusal.number(), refusal.task(), 0, 0),
-    };
-    (ours.number, ours.task, ours.cost, ours.rows) == figures
+// What both answered to a call.
+#[derive(Clone, Copy)]
+pub struct Answers {
+    pub ours: Result<answers::Admission, answers::Refusal>,
+    pub theirs: Result<Admission, Refusal>,
 }
 
-fn same_holder(ours: Holder, theirs: RefHolder) -> bool {
-    match (ours, theirs) {
-        (
-            Holder::TaskOn { machine, task },
-            RefHolder::Task {
-                machine: other,
-                task: number,
-            },
-        ) => { u64::from(machine) == other.number() && u64::from(task) == number }
-        (
-            Holder::MessageOn {
-                source,
-                target,
-                sender,
-                receiver,
-            },
-            RefHolder::Message {
-                link,
-                sender: from,
-                receiver: to,
-            },
-        ) => {
-            u64::from(source) == link.from.number()
-                && u64::from(target) == link.to.number()
-                && u64::from(sender) == from
-                && u64::from(receiver) == to
-        }
-        _ => false,
+impl Answers {
+    pub fn figures(self) -> (Answer, Answer) {
+        (Answer::from(self.ours), figures_of(self.theirs))
+    }
+
+    pub fn agree(self) -> bool {
+        let (ours, theirs) = self.figures();
+        ours == theirs
     }
 }
 
-fn same_row(ours: Row, theirs: RefRow) -> bool {
-    same_holder(ours.holder, theirs.holder)
-        && u64::from(ours.job) == theirs.job
-        && u64::from(ours.start) == theirs.start
-        && u64::from(ours.finish) == theirs.finish
-        && ours.cost == theirs.cost
+// A row of ours that the second scheduler could not hold is like none of its rows.
+fn same_row(ours: Row, theirs: Option<RefRow>) -> bool {
+    converted_row(ours).is_some_and(|row| theirs == Some(row))
 }
 
 pub fn same_seen(ours: Seen, theirs: Result<Option<RefRow>, Refusal>) -> bool {
-    match (ours, theirs) {
-        (Seen::NoMachine, Err(Refusal::NoSuchMachine)) | (Seen::Idle, Ok(None)) => true,
-        (Seen::Booked(row), Ok(Some(other))) => same_row(row, other),
-        _ => false,
-    }
+    converted_seen(ours) == Some(theirs)
 }
 
 // The clock, the total and the count of rows.
 pub fn states_apart(ours: Register, theirs: &Book) -> u64 {
-    let clock = u64::from(ours.clock() != theirs.clock());
-    let total = u64::from(ours.total() != theirs.total());
-    let count = u64::from(ours.count() != theirs.rows().len());
-    clock.saturating_add(total).saturating_add(count)
+    let apart = [
+        ours.clock() != theirs.clock(),
+        ours.total() != theirs.total(),
+        ours.count() != theirs.rows().len(),
+    ];
+    apart.into_iter().filter(|differs| *differs).count() as u64
 }
 
 // The rows, up to the larger count.
 pub fn rows_apart(ours: Register, theirs: &Book, count: usize) -> u64 {
     let others = theirs.rows();
-    let apart = ours.rows().into_iter().enumerate().take(count).filter(|(i, row)| {
-        others.get(*i).is_none_or(|other| !same_row(*row, *other))
-    });
+    let apart = ours
+        .rows()
+        .into_iter()
+        .enumerate()
+        .take(count)
+        .filter(|(i, row)| !same_row(*row, others.get(*i).copied()));
     apart.count() as u64
 }
 
 // The failure rates of the machines.
-pub fn rates_apart(theirs: &Tables) -> u64 {
+fn rates_apart(theirs: &Tables) -> u64 {
     let setup = default_setup();
-    let mut apart = u64::from(setup.table.machines != 4);
-    for machine in Machine::ALL {
-        let rate = setup.rate(machine.number());
-        apart = apart.saturating_add(u64::from(rate != theirs.rate(Resource::Machine(machine))));
-    }
-    apart
+    let apart = Machine::ALL
+        .into_iter()
+        .filter(|machine| setup.rate(machine.number()) != theirs.rate(Resource::Machine(*machine)))
+        .count() as u64;
+    apart.saturating_add(u64::from(setup.table.machines != 4))
 }
 
-// The times and failure rates of the links, for every ordered pair of machines.
-pub fn links_apart(theirs: &Tables) -> u64 {
-    let mut apart: u64 = 0;
-    for from in Machine::ALL {
-        apart = apart.saturating_add(links_from_apart(theirs, from));
-    }
-    apart
+// Every ordered pair of machines.
+fn links() -> [Link; 16] {
+    array::from_fn(|i| Link {
+        from: Machine::ALL[i / 4],
+        to: Machine::ALL[i % 4],
+    })
 }
 
-fn links_from_apart(theirs: &Tables, from: Machine) -> u64 {
+// On how many links a figure of ours is not theirs.
+fn links_apart<O: Fn(Link) -> u64, T: Fn(Link) -> u64>(ours: O, theirs: T) -> u64
+    requires ours { O.IsAlwaysCallable ours }
+    requires theirs { T.IsAlwaysCallable theirs }
+{
+    let apart = links()
+        .into_iter()
+        .filter(|link| ours(*link) != theirs(*link));
+    apart.count() as u64
+}
+
+// The failure rates of the machines, and the times and failure rates of the links.
+pub fn tables_apart(theirs: &Tables) -> u64 {
     let setup = default_setup();
-    let mut apart: u64 = 0;
-    for to in Machine::ALL {
-        let link = Link { from, to };
-        let time = setup.link_time(from.number(), to.number());
-        let rate = setup.link_rate(from.number(), to.number());
-        apart = apart.saturating_add(u64::from(time != theirs.link_time(link)));
-        apart = apart.saturating_add(u64::from(rate != theirs.rate(Resource::Link(link))));
-    }
-    apart
+    let times = links_apart(
+        |link| setup.link_time(link.from.number(), link.to.number()),
+        |link| theirs.link_time(link),
+    );
+    let rates = links_apart(
+        |link| setup.link_rate(link.from.number(), link.to.number()),
+        |link| theirs.rate(Resource::Link(link)),
+    );
+    rates_apart(theirs)
+        .saturating_add(times)
+        .saturating_add(rates)
 }

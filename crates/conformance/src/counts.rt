@@ -1,8 +1,11 @@
 // What is counted over all lists.
+use rules::Seen;
+
 #[derive(Clone, Copy, Default)]
 pub struct Counts {
     pub calls: u64,
-    // By answer number. Looks that are not refused are counted beside.
+    // By answer number, as the table is printed. `Refusal` has no 13 or 18, which are those of looks and ratios.
+    // Looks that are not refused are counted beside.
     pub answers: [u64; 14],
     pub idle: u64,
     pub booked: u64,
@@ -16,54 +19,46 @@ pub struct Counts {
     pub differences: u64,
 }
 
-// One call more, by its answer number; a number above 13 is none, and a difference.
-pub fn answered(counts: Counts, number: u64) -> Counts {
-    let mut more = counts;
-    let at = number as usize;
-    more.calls = counts.calls.saturating_add(1);
-    if at < 14 {
-        more.answers[at] = counts.answers[at].saturating_add(1);
-    } else {
-        more.differences = counts.differences.saturating_add(1);
-    }
-    more
+fn add(count: &mut u64, more: u64) {
+    *count = count.saturating_add(more);
 }
 
-pub fn differing(counts: Counts, differences: u64) -> Counts {
-    let mut more = counts;
-    more.differences = counts.differences.saturating_add(differences);
-    more
-}
+impl Counts {
+    // One call more, by its answer number; a number above 13 is none, and a difference.
+    pub fn answer(&mut self, number: u64) {
+        add(&mut self.calls, 1);
+        match self.answers.get_mut(number as usize) {
+            Some(count) => add(count, 1),
+            None => self.differ(1),
+        }
+    }
 
-// So many rows are held, and each was compared.
-pub fn holding(counts: Counts, rows: u64) -> Counts {
-    let mut more = counts;
-    more.rows = counts.rows.saturating_add(rows);
-    if counts.most < rows {
-        more.most = rows;
+    // One look more. A refused one is an answer.
+    pub fn see(&mut self, seen: Seen) {
+        let found = match seen {
+            Seen::NoMachine => return self.answer(13),
+            Seen::Idle => &mut self.idle,
+            Seen::Booked(_) => &mut self.booked,
+        };
+        add(found, 1);
+        add(&mut self.calls, 1);
     }
-    if 200 < rows {
-        more.crowded = counts.crowded.saturating_add(1);
-    }
-    if rows == 255 {
-        more.almost_full = counts.almost_full.saturating_add(1);
-    }
-    if rows == 256 {
-        more.full = counts.full.saturating_add(1);
-    }
-    more
-}
 
-pub fn seen_idle(counts: Counts) -> Counts {
-    let mut more = counts;
-    more.calls = counts.calls.saturating_add(1);
-    more.idle = counts.idle.saturating_add(1);
-    more
-}
+    pub fn differ(&mut self, differences: u64) {
+        add(&mut self.differences, differences);
+    }
 
-pub fn seen_booked(counts: Counts) -> Counts {
-    let mut more = counts;
-    more.calls = counts.calls.saturating_add(1);
-    more.booked = counts.booked.saturating_add(1);
-    more
+    // A difference, unless the two sides are the same.
+    pub fn compare(&mut self, same: bool) {
+        self.differ(u64::from(!same));
+    }
+
+    // So many rows are held, and each was compared.
+    pub fn hold(&mut self, rows: u64) {
+        add(&mut self.rows, rows);
+        self.most = self.most.max(rows);
+        add(&mut self.crowded, u64::from(200 < rows));
+        add(&mut self.almost_full, u64::from(rows == 255));
+        add(&mut self.full, u64::from(rows == 256));
+    }
 }

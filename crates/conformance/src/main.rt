@@ -10,30 +10,27 @@ mod examples;
 mod lists;
 mod report;
 
-use compare::{links_apart, rates_apart};
+use compare::tables_apart;
 use console::Console;
-use counts::{Counts, differing};
+use counts::Counts;
 use examples::{largest_total, ratios, row_limit};
 use lists::{all_lists, with_wrong_link};
 use reference::Tables;
-use report::{print_counts, print_line};
+use report::print_counts;
 use std::process::ExitCode;
 
-fn tables(out: &mut Console, counts: Counts) -> Counts {
-    let theirs = Tables::new();
-    let apart = rates_apart(&theirs).saturating_add(links_apart(&theirs));
-    print_line(out, b"differences of the tables: ", apart);
-    differing(counts, apart)
+fn compare_tables(out: &mut Console, counts: &mut Counts) {
+    let apart = tables_apart(&Tables::new());
+    out.println(format_args!("differences of the tables: {apart}"));
+    counts.differ(apart);
 }
 
 fn planted_fault(out: &mut Console) {
-    let counts = with_wrong_link(Counts::default());
-    print_line(
-        out,
-        b"with a wrong link time in the reference, differences: ",
-        counts.differences,
-    );
-    if counts.differences == 0 {
+    let differences = with_wrong_link().differences;
+    out.println(format_args!(
+        "with a wrong link time in the reference, differences: {differences}"
+    ));
+    if differences == 0 {
         out.println("the planted fault was not noticed");
     } else {
         out.println("the planted fault was noticed");
@@ -43,11 +40,12 @@ fn planted_fault(out: &mut Console) {
 fn main(rt: HostRuntime) -> ExitCode {
     let mut console = Console::new(rt.stdout());
     let out = &mut console;
-    let mut counts = tables(out, Counts::default());
-    counts = row_limit(out, counts);
-    counts = largest_total(out, counts);
-    counts = ratios(out, counts);
-    counts = all_lists(out, counts);
+    let mut counts = Counts::default();
+    compare_tables(out, &mut counts);
+    row_limit(out, &mut counts);
+    largest_total(out, &mut counts);
+    ratios(out, &mut counts);
+    all_lists(out, &mut counts);
     print_counts(out, counts);
     planted_fault(out);
     console.status()

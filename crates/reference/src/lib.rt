@@ -2,8 +2,8 @@
 // of a machine or a link is the least among a few candidate ticks, each tested against every row. It is there to be compared with the register
 // call by call, so it shares nothing with it: its types and its tables of rates and link times are its own.
 //
-// It is proved safe and ending, for every book and every job; what it answers is not specified, but that machines are numbered from 1 to 4. A sum or a product that would not fit stays at
-// the largest number. Figures in their ranges come nowhere near: a tick is below 10^10, a cost below 10^12.
+// It is proved safe and ending, for every book and every job; what it answers is not specified, but that machines are numbered from 1 to 4.
+// A sum or a product that would not fit stays at the largest number. Figures in their ranges come nowhere near: a tick is below 10^10, a cost below 10^12.
 #![tactic(auto)]
 
 mod jobs;
@@ -41,8 +41,8 @@ pub struct Book {
     tables: Tables,
 }
 
-// What an accepted submission costs, and how many rows it takes.
-#[derive(Clone, Copy)]
+// What an accepted call costs, and how many rows it takes: nothing for a call that books none.
+#[derive(Clone, Copy, PartialEq, Eq, Default)]
 pub struct Admission {
     pub cost: u64,
     pub rows: u64,

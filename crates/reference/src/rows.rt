@@ -4,7 +4,7 @@ ghost use Rattle.std.specs.Prelude.{◌≤◌};
 use crate::machines::{Link, Machine, Resource};
 
 // What holds a row: a task on a machine, or a message on a link, from one task to another.
-#[derive(Clone, Copy)]
+#[derive(Clone, Copy, PartialEq, Eq)]
 pub enum RefHolder {
     Task {
         machine: Machine,
@@ -18,13 +18,23 @@ pub enum RefHolder {
 }
 
 // A booking. Its span holds its start and not its finish.
-#[derive(Clone, Copy)]
+#[derive(Clone, Copy, PartialEq, Eq, Default)]
 pub struct RefRow {
     pub holder: RefHolder,
     pub job: u64,
     pub start: u64,
     pub finish: u64,
     pub cost: u64,
+}
+
+// That of a place which no row has taken. A derive needs a case that holds nothing.
+impl Default for RefHolder {
+    fn default() -> Self {
+        RefHolder::Task {
+            machine: Machine::One,
+            task: 0,
+        }
+    }
 }
 
 impl RefHolder {
@@ -47,18 +57,6 @@ impl RefRow {
     }
 }
 
-// What stands in the places that no row has taken.
-const BLANK: RefRow = RefRow {
-    holder: RefHolder::Task {
-        machine: Machine::One,
-        task: 0,
-    },
-    job: 0,
-    start: 0,
-    finish: 0,
-    cost: 0,
-};
-
 // Up to so many rows, in order. An ArrayVec would do, but it is not Copy, and books and plans are copied.
 #[derive(Clone, Copy)]
 pub struct Rows<const CAPACITY: usize> {
@@ -70,7 +68,7 @@ pub struct Rows<const CAPACITY: usize> {
 impl<const CAPACITY: usize> Rows<CAPACITY> {
     pub fn new() -> Self {
         Rows {
-            places: [BLANK; CAPACITY],
+            places: [RefRow::default(); CAPACITY],
             count: 0,
         }
     }

@@ -14,22 +14,22 @@ const ELEVEN: u64 = 10_000_000_000;
 // A job as it was read: its text fits a buffer of its length and every longer one, and no shorter one.
 fn as_read(job: &Job, text: &[u8], count: &mut Count) {
     let length = text.len();
-    count.count(writes(job, 0, Err(Unwritten::NoRoom)));
+    count.note(writes(job, 0, Err(Unwritten::NoRoom)));
     if length == 0 || ROOM <= length {
-        count.count(false);
+        count.note(false);
         return;
     }
-    count.count(writes(job, length - 1, Err(Unwritten::NoRoom)));
+    count.note(writes(job, length - 1, Err(Unwritten::NoRoom)));
     for room in [length, length + 1, ROOM] {
-        count.count(writes(job, room, Ok(text)));
+        count.note(writes(job, room, Ok(text)));
     }
-    count.count(reads_back(job));
+    count.note(reads_back(job));
 }
 
 // A job that is not written, whatever the room.
 fn unwritable(job: &Job, count: &mut Count) {
     for room in [0, ROOM] {
-        count.count(writes(job, room, Err(Unwritten::Unwritable)));
+        count.note(writes(job, room, Err(Unwritten::Unwritable)));
     }
 }
 
@@ -40,7 +40,7 @@ fn judged<F: FnOnce(&mut Job)>(job: &Job, figure: u64, count: &mut Count, put: F
     let mut other = *job;
     put(&mut other);
     if figure <= TEN {
-        count.count(reads_back(&other));
+        count.note(reads_back(&other));
     } else {
         unwritable(&other, count);
     }
@@ -120,13 +120,13 @@ fn past_the_counts(job: &Job, text: &[u8], count: &mut Count) {
             ..other.messages[0]
         };
     }
-    count.count(writes(&other, text.len(), Ok(text)));
+    count.note(writes(&other, text.len(), Ok(text)));
 }
 
 // All that is tried of a job and its text.
 pub fn checked(job: &Job, text: &[u8], count: &mut Count) {
     if job.taskcount > TASKS as u64 || job.messagecount > MESSAGES as u64 {
-        count.count(false);
+        count.note(false);
         return;
     }
     as_read(job, text, count);

@@ -16,7 +16,8 @@ pub struct Count {
 }
 
 impl Count {
-    pub fn count(&mut self, good: bool) {
+    // One call more, and whether it did as it should.
+    pub fn note(&mut self, good: bool) {
         self.tried = self.tried.saturating_add(1);
         if !good {
             self.different = self.different.saturating_add(1);

@@ -51,9 +51,9 @@ impl Draws {
         second / 16 % end
     }
 
-    // One of so many draws.
+    // One of so many draws. A count of 0 is as 1.
     pub fn rarely(self, key: u64, count: u64) -> bool {
-        count != 0 && self.draw(key, count) == 0
+        self.draw(key, count) == 0
     }
 }
 

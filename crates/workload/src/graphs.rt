@@ -1,28 +1,28 @@
 // Which tasks of a drawn job send to which, and how much.
 ghost use Rattle.std.specs.Prelude.{◌<◌, ◌≤◌};
 
+use crate::drawn::Source;
 use crate::draws::Draws;
-use crate::shapes::{Graph, Shape};
+use crate::shapes::Graph;
 use builder::{message, with_message};
 use rules::{Job, TASKS};
 
 // The graph of a job, and what its messages are drawn from.
 #[derive(Clone, Copy)]
-pub struct Plan {
+pub struct Plan<'a> {
     pub taskcount: u64,
     graph: Graph,
     // The tasks in a row of a lattice.
     width: u64,
-    // A volume is below this.
-    volume: u64,
-    draws: Draws,
+    source: Source<'a>,
     ghost has_width: { 0 < width },
 }
 
-impl Plan {
+impl<'a> Plan<'a> {
     // A lattice is a square where the shape allows so many tasks.
-    pub fn drawn(shape: &Shape, draws: Draws) -> Plan {
-        let graph = shape.graph.unwrap_or_else(|| drawn_graph(draws));
+    pub fn drawn(source: Source<'a>) -> Self {
+        let Source { shape, draws } = source;
+        let graph = shape.graph.unwrap_or_else(|| Graph::drawn(draws));
         let width = 2 + draws.draw(3, 3);
         let square = width * width;
         let taskcount = if graph == Graph::Lattice && square <= shape.tasks {
@@ -34,8 +34,7 @@ impl Plan {
             taskcount,
             graph,
             width,
-            volume: shape.volume,
-            draws,
+            source,
         }
     }
 
@@ -50,10 +49,11 @@ impl Plan {
     fn with_inputs(self, mut job: Job, receiver: u64) -> Job
         requires { receiver ≤ 16 }
     {
+        let Source { shape, draws } = self.source;
         for sender in 1..receiver {
-            let pair = self.draws.at(1_000 + sender + 32 * receiver);
+            let pair = draws.at(1_000 + sender + 32 * receiver);
             if self.sends(sender, receiver, pair) {
-                let volume = pair.draw(1_000, self.volume);
+                let volume = pair.draw(1_000, shape.volume);
                 job = with_message(job, message(sender, receiver, volume));
             }
         }
@@ -77,14 +77,17 @@ impl Plan {
     }
 }
 
-fn drawn_graph(draws: Draws) -> Graph {
-    match draws.draw(6, 8) {
-        0 => Graph::Chain,
-        1 => Graph::Fork,
-        2 => Graph::Join,
-        3 => Graph::Tree,
-        4 => Graph::Lattice,
-        5 => Graph::Random,
-        _ => Graph::Independent,
+impl Graph {
+    // A number that is drawn is nothing else, so it is matched as it is.
+    fn drawn(draws: Draws) -> Self {
+        match draws.draw(6, 8) {
+            0 => Graph::Chain,
+            1 => Graph::Fork,
+            2 => Graph::Join,
+            3 => Graph::Tree,
+            4 => Graph::Lattice,
+            5 => Graph::Random,
+            _ => Graph::Independent,
+        }
     }
 }

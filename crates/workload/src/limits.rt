@@ -32,9 +32,9 @@ pub fn sixteen() -> Job {
     Job {
         number: 9,
         scheduling: 2,
-        taskcount: 16,
+        taskcount: TASKS as u64,
         tasks: in_turn(),
-        messagecount: 32,
+        messagecount: MESSAGES as u64,
         messages: across(5),
     }
 }
@@ -63,14 +63,14 @@ fn large_tasks() -> [Task; TASKS] {
     })
 }
 
-// 16 tasks and 32 messages of the largest figures, but for the scheduling time.
+// All tasks and messages, of the largest figures, but for the scheduling time.
 pub fn largest(scheduling: u64) -> Job {
     Job {
         number: LAST_JOB,
         scheduling,
-        taskcount: 16,
+        taskcount: TASKS as u64,
         tasks: large_tasks(),
-        messagecount: 32,
+        messagecount: MESSAGES as u64,
         messages: across(LARGEST_VOLUME),
     }
 }

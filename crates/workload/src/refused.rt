@@ -1,6 +1,6 @@
 // Jobs in the order in which a program submits them: refused ones, and accepted ones at the limits beside them.
 use crate::limits::{all_entries, easy, largest, largest_with_task, largest_with_volume};
-use builder::{alone, job, message, numbered, task};
+use builder::{alone, job, message, task};
 use rules::{Job, Message, Task};
 
 // For refusals 1 and 2.
@@ -92,7 +92,7 @@ fn late() -> Task {
 pub fn by_order() -> [Job; 10] {
     let to_itself = message(1, 1, 0);
     [
-        numbered(0),
+        job(0, &[], &[]),
         slow(&[]),
         slow(&[easy()]),
         job(7, &[task(0, 0, [1, 0, 0, 0])], &[to_itself]),

@@ -34,9 +34,9 @@ pub struct Shape {
     pub scheduling: u64,
     // Jobs are numbered from 1 to this.
     pub numbers: u64,
-    // One job in so many has figures out of range, and one in so many has figures at their limits.
-    pub faults: u64,
-    pub limits: u64,
+    // One job in so many has figures out of range, and one in so many has figures at their limits. With `None`, no job has.
+    pub faults: Option<u64>,
+    pub limits: Option<u64>,
     // How many of 16 calls are submissions, and of the others how many of 16 withdrawals and clock moves; the rest are looks.
     pub submissions: u64,
     pub withdrawals: u64,
@@ -60,8 +60,8 @@ const USUAL: Shape = Shape {
     dispatch: 3,
     scheduling: 3,
     numbers: 90,
-    faults: 40,
-    limits: 0,
+    faults: Some(40),
+    limits: None,
     submissions: 9,
     withdrawals: 6,
     advances: 5,
@@ -151,8 +151,8 @@ pub const OUT_OF_RANGE: Shape = Shape {
     tasks: 16,
     lead: 60,
     lag: 10,
-    faults: 2,
-    limits: 9,
+    faults: Some(2),
+    limits: Some(9),
     submissions: 12,
     ..USUAL
 };
@@ -167,7 +167,7 @@ pub const LARGE_FIGURES: Shape = Shape {
     slack: 3_000_000,
     dispatch: 200_000,
     scheduling: 1_000_001,
-    limits: 4,
+    limits: Some(4),
     step: 2_000_000,
     ..USUAL
 };
@@ -181,7 +181,7 @@ pub const CROWDED: Shape = Shape {
     dispatch: 2,
     scheduling: 2,
     numbers: 900,
-    faults: 60,
+    faults: Some(60),
     submissions: 11,
     withdrawals: 9,
     advances: 2,

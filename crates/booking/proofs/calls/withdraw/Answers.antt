@@ -1,5 +1,0 @@
-use Rattle.booking.proofs.Leaving.{untouched_by}
-use Rattle.booking.proofs.calls.withdraw.Goals as goal
-
-pub answered-requires : goal.answered-requires
-answered-requires c = untouched_by c.withdraw.ensures

@@ -18,7 +18,7 @@ import tempfile
 MAIN = """script::run_calls script::calls::called script::acts::next_act script::replies::put_reply script::listing::put_listing
  script::listing::put_rows admission::submit admission::tested admission::judged admission::join
  timetable::Timetable::withdraw timetable::Timetable::advance timetable::Timetable::take_out placement::place::place
- drcd::choice::choose drcd::trial::attempt drcd::trial::try_inputs placement::append::append drcd::order::next_ready
+ drcd::choice::choose drcd::Scene::attempt drcd::Scene::try_inputs placement::append::append drcd::order::next_ready
  timeline::line::Timeline::least_free timeline::line::Timeline::least_beside timeline::line::Timeline::insert
  screening::screened texts::forms::read_form lines::line::read_line""".split()
 

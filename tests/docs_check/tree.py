@@ -123,7 +123,7 @@ class Tree:
         """Adds the names of a source file, which stand in its crate and in the module that it is, and its keys."""
         self.texts["/".join(path)] = " ".join(text.split())
         self.add_keys(text)
-        if path[-1] not in OF_FUNCTION:
+        if path[2] != "proofs" or path[-1] not in OF_FUNCTION:
             module = (path[1],) if name in ("lib", "main", "Lib") else (path[1], name)
             self.owners[name].add((path[1],))
             for inside, own in SOURCES[path[-1].rpartition(".")[2]](text):

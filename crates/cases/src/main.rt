@@ -9,6 +9,9 @@ use script::{OUTPUT, run};
 use std::io;
 use std::io::Read;
 
+// Differences are counted up to this many, and each is printed.
+const MOST_COUNTED: u64 = 1_000_000;
+
 // A part of the container: its bytes, and what is left after them.
 #[derive(Clone, Copy)]
 struct Part<'a> {
@@ -62,7 +65,7 @@ fn check_all(rt: &impl Print, text: &[u8]) -> io::Result<()> {
         };
         if !case.alike {
             println!(rt; "differs={cases}")?;
-            different += 1;
+            different = MOST_COUNTED.min(different + 1);
         }
         cases += 1;
         rest = case.rest;

@@ -8,20 +8,20 @@ use reservation::{Register, Reply};
 use rules::{Answer, Job};
 use tally::{Tally, guarantee_ratio};
 
-#[derive(Drop)]
-pub struct Both<'a> {
+#[derive(Clone, Copy)]
+pub struct Both {
     pub register: Register,
     pub book: Book,
-    counts: &'a mut Counts,
+    pub counts: Counts,
     // The submissions that arrived and those admitted, counted on each side.
     pub tally: Tally,
-    arrived: u64,
-    admitted: u64,
+    pub arrived: u64,
+    pub admitted: u64,
 }
 
-impl<'a> Both<'a> {
-    // A fresh register beside this book.
-    pub fn new(book: Book, counts: &'a mut Counts) -> Self {
+impl Both {
+    // A fresh register beside this book. What is counted goes on from the counts given.
+    pub fn new(book: Book, counts: Counts) -> Self {
         Both {
             register: Register::new(),
             book,

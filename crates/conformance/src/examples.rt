@@ -25,12 +25,13 @@ fn one_more(out: &mut Console, both: &mut Both, number: u64) {
 
 // With 255 rows a job of one row fits, with 256 it is refused 8.
 pub fn row_limit(out: &mut Console, counts: &mut Counts) {
-    let mut both = Both::new(Book::new(), counts);
+    let mut both = Both::new(Book::new(), *counts);
     for number in 1..256 {
         both.submit(one_row(number));
     }
     one_more(out, &mut both, 256);
     one_more(out, &mut both, 257);
+    *counts = both.counts;
 }
 
 // The total of both sides, which passes 32 bits.
@@ -42,7 +43,7 @@ fn print_total(out: &mut Console, both: &Both) {
 
 // A full register of the largest costs; then a job is withdrawn, and a hundred end.
 pub fn largest_total(out: &mut Console, counts: &mut Counts) {
-    let mut both = Both::new(Book::new(), counts);
+    let mut both = Both::new(Book::new(), *counts);
     for number in 1..257 {
         both.submit(costliest(number));
     }
@@ -51,6 +52,7 @@ pub fn largest_total(out: &mut Console, counts: &mut Counts) {
     print_total(out, &both);
     both.advance(100_000_000);
     print_total(out, &both);
+    *counts = both.counts;
 }
 
 // A ratio as it is printed: by its number, 0 or that of a refusal, and its parts.
@@ -74,12 +76,12 @@ fn ratio(out: &mut Console, counts: &mut Counts, tally: Tally) {
 
 // Two of three submissions are admitted.
 fn ratio_of_calls(out: &mut Console, counts: &mut Counts) {
-    let mut both = Both::new(Book::new(), counts);
+    let mut both = Both::new(Book::new(), *counts);
     both.submit(one_row(1));
     both.submit(one_row(1));
     both.submit(one_row(2));
-    let tally = both.tally;
-    ratio(out, counts, tally);
+    *counts = both.counts;
+    ratio(out, counts, both.tally);
 }
 
 // That ratio; and 18 where nothing arrived, or less than was admitted.

@@ -16,7 +16,7 @@ use workload::shapes::{
 // One list from a tick on; at its end the ratio is compared, and the clock is moved to the horizon. Each call has a seed of its own.
 fn one_list(book: Book, counts: &mut Counts, shape: &Shape, calls: u64, tick: u64, seed: Draws) {
     let mut draws = seed;
-    let mut both = Both::new(book, counts);
+    let mut both = Both::new(book, *counts);
     both.advance(tick);
     for _ in 0..calls {
         draws = draws.next();
@@ -29,6 +29,7 @@ fn one_list(book: Book, counts: &mut Counts, shape: &Shape, calls: u64, tick: u6
     }
     both.compare_ratios();
     both.advance(Register::HORIZON);
+    *counts = both.counts;
 }
 
 // Several lists of one shape, each from a seed of its own.

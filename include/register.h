@@ -17,7 +17,7 @@
  * - Calls may run at the same time, in threads and in signal handlers.
  * - The library has no writable data of its own, so no call sees another.
  * - A call always returns. It leaves errno alone, locks nothing, allocates nothing.
- * - It makes no system call. It calls memcpy, memmove and memset, and nothing else.
+ * - It makes no system call. It calls memcpy and memset, and nothing else.
  * - The library has no unwind tables. No exception may pass through a call.
  * - A thread must not be cancelled asynchronously while it is in a call.
  * - The stack must have the bytes left that the function's comment names.
@@ -44,7 +44,7 @@ extern "C" {
 #define REGISTER_OUTPUT_SIZE 184320
 
 /* The stack that a call of register_run may need, in bytes. */
-#define REGISTER_RUN_STACK 40960
+#define REGISTER_RUN_STACK 32768
 
 /*
  * Runs a script on a fresh register, and writes what the program `register`

@@ -13,7 +13,7 @@ from docs_check.tree import Tree
 DOCUMENTS = ("README.md", "docs/*.md", "docs/*.[1-9]", "docs/man/*.[1-9]", "man/*.[1-9]")
 WORDS = "tests/docs.words"
 # Says what changed, and so quotes names that are gone.
-PAST = ("docs/PORT.md", "docs/DESIGN-PASS.md")
+PAST = ("docs/PORT.md", "docs/DESIGN-PASS.md", "docs/LOOK-BACK.md")
 
 
 def documents(root, files):

@@ -21,8 +21,8 @@ use Rattle.timeline.proofs.RowLines.{line_from}
 use Rattle.placement.specs.declared.own.Entry.{Entry}
 use Rattle.placement.proofs.Placed.{costs_at_most}
 use Rattle.timetable.specs.declared.Timetable.{Timetable}
-use Rattle.timetable.specs.Derived.{most_of, never, last_finish, soonest_end}
-use Rattle.timetable.specs.Timetables.{timetable_of, TimetableOf}
+use Rattle.timetable.specs.Derived.{most_of, never, last_finish, soonest_end, timetable_of}
+use Rattle.timetable.specs.Timetables.{TimetableOf}
 use Rattle.timetable.proofs.Standing.{notes_are, goes, refused_goes}
 use Rattle.admission.specs.Submitted.{AskTested, TestedIs, Accepted, JudgedIs, LastIs, JoinedIs, Found, SubmitIs}
 use Rattle.admission.proofs.Admitting.{cost_of_new, some_new}

@@ -7,4 +7,5 @@ pub mod LineLaws
 pub mod Scanned
 pub mod Numbers
 pub mod Lined
+pub mod Readings
 pub mod Put

@@ -4,12 +4,37 @@ use mathlib.Core.List.{List, [], ◌∷◌, ◌++◌, append_assoc, append-nil}
 use Prim.Native.Nat.{ℕ, suc, ◌+◌, ◌-◌, ◌/◌, ◌%◌, ◌≤◌, ◌<◌}
 use native.Mathlib.Nat.{add-zero}
 use native.Mathlib.Omega.{arith}
-use lib.ListN.{length, get_or, take, drop, set, length-append, length-take, length-drop, take-append-drop}
-use lib.Seq.{take-suc, take_at, drop-drop, set_at, drop-append-add}
+use native.Mathlib.Numerals.{add-one}
+use lib.ListN.{length, get_or, take, drop, set, length-append, length-take, length-drop, length-set, take-append-drop}
+use lib.Seq.{paste, paste-zero, paste-suc, take-length, take-suc, take_at, drop-drop, set_at, drop-append-add}
 use Rattle.rules.proofs.Sequences.{by_less}
 use Rattle.lines.specs.Figures.{zero_digit, decimal, line_feed, field}
 use Rattle.lines.specs.Put.{overwritten, Puts}
 use Rattle.lines.proofs.Decimals.{decimal_small, decimal_step}
+
+-- Bytes copied one by one.
+
+pub record Copied (old : List ℕ) (at : ℕ) (bytes new : List ℕ) (i : ℕ) : Type 0 where
+  pub new_is : new ≡ paste old at bytes i
+  pub at_most : i ≤ length bytes
+  pub long : length new ≡ length old
+
+pub copied_none : (old : List ℕ) (at : ℕ) (bytes : List ℕ) → Copied old at bytes old 0
+copied_none old at bytes = record { new_is = paste-zero old at bytes; at_most = omega arith; long = refl }
+
+module _ {old : List ℕ} {at : ℕ} {bytes new : List ℕ} {i : ℕ} (w : Copied old at bytes new i) where
+  pub copied_more : at + length bytes ≤ length old → i < length bytes → Copied old at bytes (set new (at + i) (get_or bytes i 0)) (i + 1)
+  copied_more room h =
+      record {
+        new_is = rw (w.new_is, add-one i) (paste-suc old at bytes i 0 (omega arith) h);
+        at_most = omega arith;
+        long = length-set new (at + i) (get_or bytes i 0) ∙ w.long;
+      }
+
+  pub copied_all : length bytes ≤ i → Puts old at bytes new (at + length bytes)
+  copied_all h =
+      let all : i ≡ length bytes = let m = w.at_most in omega arith in
+      record { new_is = w.new_is ∙ rw (all, take-length bytes) refl; next_is = refl }
 
 -- Pieces written one after the other.
 

@@ -2,7 +2,7 @@
 use Rattle.std.specs.Prelude.{◌≡◌, ℕ, Result, Ok, Err}
 use Rattle.std.proofs.Math.Option.{Option, none, some}
 use Rattle.lines.specs.declared.line.Fault.{Fault}
-use Rattle.lines.specs.declared.line.Fault.TheVariants.{NoKey, IllWritten, OutOfRange}
+use Rattle.lines.specs.declared.line.Fault.TheVariants.{NoKey, IllWritten, OutOfRange, Unfit}
 use Rattle.lines.specs.declared.line.Reading.{Reading}
 use Rattle.lines.specs.declared.line.Unread.{Unread}
 use Rattle.lines.specs.Lines.{Parsed, parsed, refused}
@@ -27,6 +27,19 @@ abbrev pub fault_number : Fault → ℕ
 fault_number NoKey = 14
 fault_number IllWritten = 15
 fault_number OutOfRange = 16
+fault_number (Unfit number) = number
+
+abbrev pub number_of_reading : {A : Type 0} → Result (Reading A) Unread → ℕ
+number_of_reading (Ok reading) = 0
+number_of_reading (Err unread) = fault_number unread.fault
+
+abbrev pub reading_place : {A : Type 0} → Result (Reading A) Unread → ℕ
+reading_place (Ok reading) = reading.next
+reading_place (Err unread) = unread.at
+
+abbrev pub reading_value : {A : Type 0} → Result (Reading A) Unread → Option A
+reading_value (Ok reading) = some reading.value
+reading_value (Err unread) = none
 
 abbrev pub reading_said : {A : Type 0} → Result (Reading A) Unread → Parsed A
 reading_said (Ok reading) = parsed reading.value reading.next

@@ -1,6 +1,6 @@
 // One line of a text: a key with its equals sign, digits, and a line feed.
-ghost use Rattle.std.specs.Prelude.{◌≡◌, ◌≤◌};
-ghost use Rattle.lines.specs.Lines.{ranged as ranged_line, any_figure_line, line, unfit};
+ghost use Rattle.std.specs.Prelude.{◌≡◌, ◌≤◌, length, IsTrue};
+ghost use Rattle.lines.specs.Lines.{ranged as ranged_line, any_figure_line, begins, line, unfit};
 ghost use Rattle.lines.specs.DueLines.{key_bytes, due_of};
 ghost use Rattle.lines.specs.Readings.{fault_number, ReadingIs};
 ghost use Rattle.lines.specs.Parts.{most_scanned, ScanIs, NumberIs, AskLine};
@@ -11,18 +11,25 @@ use crate::keys::Key;
 #[derive(Clone, Copy, PartialEq, Eq)]
 pub enum Fault {
     // It does not begin with the due key and an equals sign.
-    NoKey = 14,
+    NoKey,
     // Its digits, or the line feed after them, are missing or ill-written.
-    IllWritten = 15,
+    IllWritten,
     // Its figure is outside its range.
-    OutOfRange = 16,
+    OutOfRange,
+    // Its figure is outside its range, and the line that is due names the number.
+    Unfit(u64),
 }
 
 impl Fault {
     pub fn number(self) -> u64
         ensures { result ≡ fault_number self }
     {
-        self as u64
+        match self {
+            Fault::NoKey => 14,
+            Fault::IllWritten => 15,
+            Fault::OutOfRange => 16,
+            Fault::Unfit(number) => number,
+        }
     }
 }
 
@@ -109,6 +116,23 @@ pub struct Digits {
     pub value: u64,
 }
 
+// Whether the text begins with the key, byte for byte. By index: where the key is known this is compiled to a test for each of its bytes, and neither the
+// library's test nor an iterator over both is.
+pub fn begins_with(text: &[u8], key: &[u8]) -> bool
+    ensures value { result ≡ begins key.now text.now }
+    ensures fits { IsTrue result → length key.now ≤ length text.now }
+{
+    if text.len() < key.len() {
+        return false;
+    }
+    for i in 0..key.len() {
+        if text[i] != key[i] {
+            return false;
+        }
+    }
+    true
+}
+
 // The digits up to the first other byte. More than one past the most are not looked at.
 fn scan(text: &[u8], most: usize) -> Digits
     requires { most ≤ most_scanned }
@@ -147,7 +171,8 @@ pub fn number(text: &[u8], most: usize) -> Option<Digits>
     Some(digits)
 }
 
-// The line at a place.
+// The line at a place. Inlined into the loop that reads a form: as a call of its own it takes more time.
+#[inline(always)]
 pub fn read_line(text: &[u8], at: usize, due: DueLine) -> Result<Reading<u64>, Unread>
     requires { AskLine text.now at due }
     ensures { ReadingIs (line (due_of due) text.now at) result }

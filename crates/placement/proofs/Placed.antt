@@ -401,10 +401,9 @@ module _ (s : Setup) (j : Job) (rows : List Row) {base : ℕ} {line₀ : Spans} 
                     ∙ turn_books new (j.taskcount - suc turns) (i + 1) trial is_next is_choice;
               }
 
-    -- The ways that the turns end.
-
-    -- with all rows
+    -- The ways that the turns end, with the count of the rows that are there.
     module _ {count : ℕ} (count_is : count ≡ length own) where
+      -- with all rows
       abbrev admission : Result Admission Late
       admission = Ok (record { cost = cost; rows = count })
 
@@ -415,6 +414,7 @@ module _ (s : Setup) (j : Job) (rows : List Row) {base : ℕ} {line₀ : Spans} 
         admission_is = λ a e.
             let same : a ≡ record { cost = cost; rows = count } = cc in
             rw same (count_is ∙ p.own_is.long, p.cost_is);
+        before_is = λ l e. absurd (cc);
         few = p.count_at_most;
         in_range = p.in_bounds.in_range;
         line_is = p.line_is;
@@ -432,18 +432,21 @@ module _ (s : Setup) (j : Job) (rows : List Row) {base : ℕ} {line₀ : Spans} 
           let left : j.taskcount - turns ≡ 0 = omega arith in
           admitted (p.rest ∙ ap (λ k. place_from s ground j k new) left)
 
-    -- at a task without a good trial
-    pub turn_late :
-        (t : ℕ) → next_task j new ≡ some t → choice s ground j new t ≡ none → turns < j.taskcount →
-        Placed s base rows j line own (Err (record { task = t }))
-    turn_late t e c h =
-        let left : j.taskcount - turns ≡ suc (j.taskcount - suc turns) = omega arith in
-        record {
-          new = new;
-          is = sym (p.rest ∙ ap (λ k. place_from s ground j k new) left ∙ turn_misses new (j.taskcount - suc turns) t e c);
-          admission_is = λ a e. absurd (cc);
-          few = p.count_at_most;
-          in_range = p.in_bounds.in_range;
-          line_is = p.line_is;
-          own_is = p.own_is;
-        }
+      -- at a task without a good trial
+      pub turn_late :
+          (t : ℕ) → next_task j new ≡ some t → choice s ground j new t ≡ none → turns < j.taskcount →
+          Placed s base rows j line own (Err (record { task = t; before = record { cost = cost; rows = count } }))
+      turn_late t e c h =
+          let left : j.taskcount - turns ≡ suc (j.taskcount - suc turns) = omega arith in
+          record {
+            new = new;
+            is = sym (p.rest ∙ ap (λ k. place_from s ground j k new) left ∙ turn_misses new (j.taskcount - suc turns) t e c);
+            admission_is = λ a e. absurd (cc);
+            before_is = λ l e.
+                let same : l ≡ record { task = t; before = record { cost = cost; rows = count } } = cc in
+                rw same (count_is ∙ p.own_is.long, p.cost_is);
+            few = p.count_at_most;
+            in_range = p.in_bounds.in_range;
+            line_is = p.line_is;
+            own_is = p.own_is;
+          }

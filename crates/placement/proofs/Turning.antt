@@ -104,8 +104,11 @@ module _ {s : Setup} {j : Job} {base : ℕ} {line₀ : Spans} (asked : AskPlace 
                 IsKeptOf s j (on_rows base rows) (now.so_far rows ask).new (t + 1) found starts
             kept_of rows ask = choosing.is (on_rows base rows) (now.so_far rows ask).new (scene_of rows ask)
 
-            pub turning_late : found ≡ None → PlacedIs s j base line₀ line own (Err (record { task = t + 1 }))
-            turning_late none rows ask = turn_late s j rows ask (now.so_far rows ask) (t + 1) (is_next rows ask) ((kept_of rows ask).none_found none) more
+            pub turning_late :
+                found ≡ None → {count : ℕ} → count ≡ length own →
+                PlacedIs s j base line₀ line own (Err (record { task = t + 1; before = record { cost = cost; rows = count } }))
+            turning_late none count_is rows ask =
+                turn_late s j rows ask (now.so_far rows ask) count_is (t + 1) (is_next rows ask) ((kept_of rows ask).none_found none) more
 
             module _ {kept : Kept} (is : found ≡ Some kept) where
               pub cost_room : cost + kept.best.cost < 2 ^ 64

@@ -40,6 +40,7 @@ pub record Placed (s : Setup) (base : ℕ) (rows : List Row) (j : Job) (line : S
   pub new : List Row
   pub is : placing_of r new ≡ place s (on_rows base rows) j
   pub admission_is : (a : Admission) → r ≡ Ok a → (a.rows ≡ length new) × (a.cost ≡ costs new)
+  pub before_is : (l : Late) → r ≡ Err l → (l.before.rows ≡ length new) × (l.before.cost ≡ costs new)
   pub few : length new ≤ most_own
   pub in_range : (row : Row) → Memᴰ row new → RowInRange s row
   pub line_is : LineOf (rows ++ new) line

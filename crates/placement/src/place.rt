@@ -12,10 +12,11 @@ use rules::{Job, MESSAGES, Setup, TASKS};
 use timeline::SPANS;
 use timeline::line::Timeline;
 
-// The task that has no good trial at its turn.
+// The task that has no good trial at its turn, and the rows before it with their cost.
 #[derive(Clone, Copy, PartialEq, Eq)]
 pub struct Late {
     pub task: u64,
+    pub before: Admission,
 }
 
 // DRCD: one turn for each task, the next that is ready on the machine of the best trial. The timeline is that of the rows held. The job's own rows join it, and
@@ -45,7 +46,11 @@ pub fn place(
         gather(job, t, &spots, &mut inputs);
         let turn = TaskTurn { t, release };
         let Some(kept) = choose(setup, job, &inputs, line, turn, &mut starts) else {
-            return Err(Late { task: t as u64 + 1 });
+            let rows = own.len() as u64;
+            return Err(Late {
+                task: t as u64 + 1,
+                before: Admission { cost, rows },
+            });
         };
         append(setup, &kept, &starts, &inputs, turn, line, own);
         spots[t] = Some(Spot {

@@ -3,7 +3,7 @@ use Rattle.std.specs.Prelude.{◌≡◌, take}
 use Rattle.rules.specs.Words.{State, row_limit}
 use Rattle.rules.specs.Bounds.{Sound, Bounded}
 use Rattle.timeline.specs.RowLine.{slots}
-use Rattle.timetable.specs.Timetables.{timetable_of}
+use Rattle.timetable.specs.Derived.{timetable_of}
 use Rattle.reservation.specs.Standing.{Standing}
 use Rattle.reservation.specs.declared.Register.TheInside.{Inside}
 

@@ -25,5 +25,6 @@ pub mod Counted
 pub mod Demand3
 pub mod DefaultTables
 pub mod Bounds
+pub mod Alike
 pub mod Ledger
 pub mod Refused

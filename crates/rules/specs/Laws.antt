@@ -1,14 +1,19 @@
 -- A reader must believe this: what the laws of proofs/ show of the definitions, in the words of document 01 and of the paper. Claims cite these words.
-use Rattle.std.specs.Prelude.{◌≡◌, ◌↔◌, true, ℕ, ◌+◌, ◌≤◌, ◌<◌, length}
+use Rattle.std.specs.Prelude.{◌≡◌, ◌↔◌, true, ℕ, ◌+◌, ◌≤◌, ◌<◌, length, Option, Some, None}
+use Rattle.std.proofs.Math.Option.{none, some}
 use mathlib.Core.List.{List, [], ◌∷◌, ◌++◌, Memᴰ}
+use Rattle.rules.specs.declared.Call.TheVariants.{Submit, Withdraw, Advance}
 use Rattle.rules.specs.declared.Job.{Job}
 use Rattle.rules.specs.declared.Message.{Message}
 use Rattle.rules.specs.declared.Row.{Row}
 use Rattle.rules.specs.declared.Setup.{Setup}
 use Rattle.rules.specs.Words.{State, Span, Within, Resource, machine, link, same, resource, span, Hold, holds, messages_of, task_of, run_time}
+use Rattle.rules.specs.Words.{no_message}
 use Rattle.rules.specs.Placing.{Ground, task_row, machine_for, crosses, arrival, message_booking, transfer, ready, release, message_trial, try}
 use Rattle.rules.specs.Placing.{trial_rows, costs}
-use Rattle.rules.specs.Refusals.{running, Call, step, answers}
+use Rattle.rules.specs.Refusals.{running, Call, submits, withdraws, advances, step, answers}
+use Rattle.rules.specs.Answers.{option_of}
+use Rattle.rules.specs.Kinds.{call_of}
 
 -- Resources: a machine is itself alone, and a link is one ordered pair.
 abbrev pub SameSays : Type 0
@@ -139,3 +144,18 @@ EndsListed j = (msg : Message) → Memᴰ msg (messages_of j) → IsTask j msg.s
 -- Each call has one answer: as many replies as calls.
 abbrev pub RepliesCounted : Type 0
 RepliesCounted = (s : Setup) (st : State) (calls : List Call) → length (answers (step s) st calls) ≡ length calls
+
+-- Each call of the code is the rules' call of its kind, of the same job, number or tick.
+abbrev pub CallOfSays : Type 0
+CallOfSays =
+    ((j : Job) → call_of (Submit j) ≡ submits j)
+    × ((n : ℕ) → call_of (Withdraw n) ≡ withdraws n)
+    × ((tick : ℕ) → call_of (Advance tick) ≡ advances tick)
+
+-- Where the code answers nothing the rules have nothing, and where it answers something they have that.
+abbrev pub OptionOfSays : Type 0 → Type 0
+OptionOfSays A = (o : Option A) → (o ≡ None → option_of o ≡ none) × ((a : A) → o ≡ Some a → option_of o ≡ some a)
+
+-- The message that a list answers past its end is blank: its figures are zeros.
+abbrev pub NoMessageBlank : Type 0
+NoMessageBlank = (no_message.sender ≡ 0) × (no_message.receiver ≡ 0) × (no_message.volume ≡ 0)

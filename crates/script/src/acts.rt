@@ -5,9 +5,9 @@ ghost use Rattle.script.specs.declared.acts.Stop.TheVariants.{Line};
 ghost use Rattle.script.specs.Parts.{stop_number, JobActIs, FigureIs, ActIs};
 
 use lines::keys::Key;
-use lines::line::{DueLine, Fault, Reading, Unread, read_line};
-use rules::Job;
-use texts::job::read_job;
+use lines::line::{DueLine, Fault, Reading, Unread, begins_with, read_line};
+use rules::{DEFAULT_MACHINES, Job};
+use texts::job::{FIGURES, read_job_into};
 
 // What an act calls for, with its figure. A submission's job stands in the place that is lent for it: held here it would be set to zeros
 // again for each act.
@@ -57,15 +57,19 @@ const WITHDRAW: &[u8] = b"act=withdraw\n";
 const CLOCK: &[u8] = b"act=clock\n";
 
 // The part of the script that starts at the job's first line is handed to the job reader.
-fn submit_act(input: &[u8], from: usize, job: &mut Job) -> Result<Reading<Kind>, Stop>
+fn submit_act(
+    input: &[u8],
+    from: usize,
+    row: &mut [u64; FIGURES],
+    job: &mut Job,
+) -> Result<Reading<Kind>, Stop>
     requires { from ≤ length input.now }
     ensures { JobActIs input.now from job.new result }
 {
-    let read = read_job(&input[from..])?;
-    *job = read.value;
+    let next = read_job_into(&input[from..], DEFAULT_MACHINES as u64, row, job)?;
     Ok(Reading {
         value: Kind::Submit,
-        next: from + read.next,
+        next: from + next,
     })
 }
 
@@ -81,20 +85,25 @@ fn figure_act(input: &[u8], from: usize, key: Key) -> Result<Reading<u64>, Stop>
     })
 }
 
-// The act at a place before the input's end: its call, and the place after it.
-pub fn next_act(input: &[u8], at: usize, job: &mut Job) -> Result<Reading<Kind>, Stop>
+// The act at a place before the input's end: its call, and the place after it. The row is room for a job's figures.
+pub fn next_act(
+    input: &[u8],
+    at: usize,
+    row: &mut [u64; FIGURES],
+    job: &mut Job,
+) -> Result<Reading<Kind>, Stop>
     requires { at < length input.now }
     ensures { ActIs input.now at job.new result }
 {
     let rest = &input[at..];
-    if rest.starts_with(SUBMIT) {
-        return submit_act(input, at + SUBMIT.len(), job);
+    if begins_with(rest, SUBMIT) {
+        return submit_act(input, at + SUBMIT.len(), row, job);
     }
-    if rest.starts_with(WITHDRAW) {
+    if begins_with(rest, WITHDRAW) {
         let number = figure_act(input, at + WITHDRAW.len(), Key::Job)?;
         return Ok(number.map(|number| Kind::Withdraw(number)));
     }
-    if rest.starts_with(CLOCK) {
+    if begins_with(rest, CLOCK) {
         let tick = figure_act(input, at + CLOCK.len(), Key::Tick)?;
         return Ok(tick.map(|tick| Kind::Advance(tick)));
     }

@@ -22,6 +22,7 @@ use placement::own::Own;
 use replies::put_reply;
 use rules::tables::default_setup;
 use rules::{Answer, Job};
+use texts::job::FIGURES;
 use timetable::Timetable;
 
 // The largest input, and an output buffer that is large enough for every input.
@@ -46,11 +47,12 @@ fn run_calls(input: &[u8], output: &mut [u8]) -> usize
     let setup = default_setup();
     let mut timetable = Timetable::new();
     let mut own = Own::new();
+    let mut row = [0; FIGURES];
     let mut job = Job::default();
     let mut at = 0;
     let mut end = 0;
     while at < input.len() {
-        let act = match next_act(input, at, &mut job) {
+        let act = match next_act(input, at, &mut row, &mut job) {
             Ok(act) => act,
             Err(stop) => return put_refusal(output, end, stop, &timetable),
         };

@@ -1,5 +1,5 @@
--- Where the entries of a job stand in its row, and how many machines the default table has.
-use mathlib.Core.Path.{◌≡◌, sym, ap, ◌∙◌}
+-- Where the entries of a job stand in its row, what a row without figures says, and how many machines the default table has.
+use mathlib.Core.Path.{◌≡◌, refl, sym, ap, ◌∙◌}
 use mathlib.Core.List.{List}
 use Prim.Native.Nat.{ℕ, zero, suc, ◌+◌, ◌-◌, ◌*◌, ◌<◌}
 use native.Mathlib.Nat.{zero-mul, suc-mul}
@@ -9,7 +9,7 @@ use lib.Seq.{drop-drop}
 use Rattle.rules.specs.Words.{no_task, no_message, most_tasks, most_messages}
 use Rattle.texts.specs.JobText.{groups, filled, task_said, message_said, task_of_zeros, job_said}
 use Rattle.texts.specs.JobText.{head_size, task_size, message_size, messages_at}
-use Rattle.texts.specs.Laws.{TaskStands, MessageStands}
+use Rattle.texts.specs.Laws.{NoneSaid, TaskStands, MessageStands}
 use Rattle.texts.proofs.Groups.{groups_length}
 
 groups_at :
@@ -38,6 +38,10 @@ pub group_of :
     get_or (filled blank most (groups said size n (drop from row))) i none ≡ said (take size (drop (from + i * size) row))
 group_of said size n from row i blank none most h =
     filled_at said size n (drop from row) i blank none most h ∙ ap (λ l. said (take size l)) (drop-drop (i * size) from row)
+
+pub none_said : NoneSaid
+unfolding groups
+none_said machines = refl
 
 pub task_stands : TaskStands
 task_stands machines index row h =

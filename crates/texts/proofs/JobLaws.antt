@@ -14,11 +14,15 @@ use Rattle.rules.specs.declared.Job.{Job}
 use Rattle.rules.specs.Words.{most_tasks, most_messages, no_task, no_message}
 use Rattle.rules.specs.Sequences.{all_of, joined}
 use Rattle.rules.proofs.Sequences.{clash, by_test, and_true, and_both}
+use Rattle.std.specs.Prelude.{Result}
+use Rattle.lines.specs.declared.line.Reading.{Reading}
+use Rattle.lines.specs.declared.line.Unread.{Unread}
 use Rattle.lines.specs.Lines.{Parsed, parsed, refused}
 use Rattle.texts.specs.Forms.{read, written, fills}
 use Rattle.texts.specs.JobText.{job_form, head_size}
 use Rattle.texts.specs.JobText.{groups, filled, task_said, message_said, task_of_zeros, task_size, message_size, messages_at, job_said}
 use Rattle.texts.specs.JobText.{as_job, job_text}
+use Rattle.texts.specs.Reader.{with_count, job_counted, Reads, ReadsCount}
 use Rattle.texts.specs.JobText.{task_figures, message_figures, job_figures, short, writable, written_job, blanked_task, blanked}
 use Rattle.lines.specs.Laws.{Stands}
 use Rattle.texts.specs.Laws.{Sized, FiguresAgain, SaidAgain, WrittenAgain, ReadsBackAlways, FillsIfWritable}
@@ -288,6 +292,21 @@ reads_back machines j sized w rest =
 
 pub figures_again : FiguresAgain
 figures_again machines ns f = figures_said machines (filled_parts machines ns f)
+
+-- as many figures were read as the job has
+pub read_counted : (machines : ℕ) (text : List ℕ) → with_count (read (job_form machines) text 0) ≡ job_counted machines (job_text machines text)
+unfolding job_text
+read_counted machines text = go (read (job_form machines) text 0) refl
+  where
+    go : (p : Parsed (List ℕ)) → read (job_form machines) text 0 ≡ p → with_count p ≡ job_counted machines (as_job machines p)
+    go (parsed ns next) e =
+        let fills_it = (read_is_written (job_form machines) text 0 ns next e).0 in
+        ap (λ l. parsed (length l) next) (sym (figures_again machines ns fills_it))
+    go (refused number place) e = refl
+
+-- so an answer that is the text's job says their count
+pub reads_counted : (machines : ℕ) (text : List ℕ) (r : Result (Reading Job) Unread) → Reads machines text r → ReadsCount machines text r
+reads_counted machines text r is = read_counted machines text ∙ ap (job_counted machines) (sym is)
 
 pub job_said_again : SaidAgain
 job_said_again machines j sized w = said_again machines j sized w

@@ -12,7 +12,7 @@ use Rattle.lines.specs.Readings.{reading_said}
 use Rattle.lines.specs.Laws.{Stands}
 use Rattle.texts.specs.Forms.{Form, done, ask, read, written, fills, left}
 use Rattle.lines.specs.Lines.{takes}
-use Rattle.texts.specs.JobText.{job_form, task_said, message_said, head_size, task_size, message_size, messages_at, job_said}
+use Rattle.texts.specs.JobText.{job_form, task_said, message_said, head_size, task_size, message_size, messages_at, job_said, job_of_zeros}
 use Rattle.texts.specs.JobText.{job_figures, job_text, writable, written_job, blanked}
 use Rattle.texts.specs.declared.forms.Unwritten.{Unwritten}
 use Rattle.texts.specs.Reader.{Reads}
@@ -85,6 +85,10 @@ FiguresAgain = (machines : ℕ) (ns : List ℕ) → fills (job_form machines) ns
 
 abbrev pub SaidAgain : Type 0
 SaidAgain = (machines : ℕ) (j : Job) → Sized machines j → writable machines j ≡ true → job_said machines (job_figures machines j) ≡ blanked machines j
+
+-- A row without figures says the job of zeros.
+abbrev pub NoneSaid : Type 0
+NoneSaid = (machines : ℕ) → job_said machines [] ≡ job_of_zeros
 
 -- The entries of the job that a row says stand in groups: the task of a number, and the message at an index.
 abbrev pub TaskStands : Type 0

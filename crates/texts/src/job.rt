@@ -3,7 +3,7 @@ ghost use Rattle.std.specs.Prelude.{◌≡◌, ℕ, ◌+◌, ◌*◌, ◌≤◌,
 ghost use Rattle.rules.specs.Words.{most_machines};
 ghost use Rattle.texts.specs.JobText.{head_size, task_size, message_size, task_said, message_said, job_said};
 ghost use Rattle.texts.specs.JobText.{message_figures};
-ghost use Rattle.texts.specs.Reader.{Reads, default_machines};
+ghost use Rattle.texts.specs.Reader.{Reads, ReadsInto, ReadsCount, default_machines};
 ghost use Rattle.lines.specs.Put.{Puts};
 ghost use Rattle.texts.specs.Rows.{MachineCount, AskTask, AskMessage, CountsInRange, Countable};
 ghost use Rattle.texts.specs.Rows.{TaskPut, JobPut, AskSent, sent_figures};
@@ -113,19 +113,39 @@ fn put_messages(row: &mut [u64], from: usize, job: &Job) -> usize
     at
 }
 
-// The job that a part of a script says, which starts at the job's first line, for a table of so many machines.
+// The job that a part of a script says, which starts at the job's first line, for a table of so many machines. It goes to the place that is lent, and the place
+// after its last line is answered: in the answer it was copied once more. A refusal leaves what stood there. The row for its figures is lent too, and may hold
+// anything: a new one is set to zeros each time.
+pub fn read_job_into(
+    text: &[u8],
+    machines: u64,
+    row: &mut [u64; FIGURES],
+    job: &mut Job,
+) -> Result<usize, Unread>
+    requires { MachineCount machines }
+    ensures { ReadsInto machines text.now job.old job.new result }
+{
+    let read = read_form(text, JobLine::Number, machines, row)?;
+    *job = job_of(row, machines);
+    Ok(read.next)
+}
+
+// The same as an answer with the job.
 pub fn read_job_over(text: &[u8], machines: u64) -> Result<Reading<Job>, Unread>
     requires { MachineCount machines }
-    ensures { Reads machines text.now result }
+    ensures job { Reads machines text.now result }
+    ensures count { ReadsCount machines text.now result }
 {
     let mut row = [0; FIGURES];
-    let read = read_form(text, JobLine::Number, machines, &mut row)?;
-    Ok(read.map(|_| job_of(&row, machines)))
+    let mut job = Job::default();
+    let next = read_job_into(text, machines, &mut row, &mut job)?;
+    Ok(Reading { value: job, next })
 }
 
 // The same for the default table.
 pub fn read_job(text: &[u8]) -> Result<Reading<Job>, Unread>
-    ensures { Reads default_machines text.now result }
+    ensures job { Reads default_machines text.now result }
+    ensures count { ReadsCount default_machines text.now result }
 {
     read_job_over(text, DEFAULT_MACHINES as u64)
 }

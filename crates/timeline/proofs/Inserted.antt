@@ -1,12 +1,12 @@
--- A value put into a column at an index: the part from there on turned by one, and what then stands at each index.
-use mathlib.Core.Path.{◌≡◌, refl, ap, ◌∙◌}
-use mathlib.Core.List.{List, [], ◌∷◌, ◌++◌}
-use Prim.Native.Nat.{ℕ, ◌+◌, ◌-◌, ◌≤◌, ◌<◌}
+-- A value put into a column at an index: the loop that makes room for it, and what then stands at each index.
+use mathlib.Core.Path.{◌≡◌, refl, sym, ap, ◌∙◌}
+use mathlib.Core.List.{List, ◌∷◌, ◌++◌}
+use Prim.Native.Nat.{ℕ, suc, ◌+◌, ◌-◌, ◌≤◌, ◌<◌}
 use native.Mathlib.Omega.{arith}
-use lib.ListN.{length, get_or, take, drop, set, length-take, length-drop}
-use lib.Seq.{length-take-le, take-take, drop-drop}
-use borrow.Rule.Slice.PartMut.{mid_of, put_mid, same_len_mid}
-use Rattle.std.proofs.lemmas.List.{places}
+use native.Mathlib.Numerals.{add-one}
+use lib.ListN.{length, get_or, take, drop, set, length-set}
+use lib.Seq.{get_or-take, take-take, take-set-le, set_split}
+use Rattle.std.proofs.lemmas.List.{places, drop_more, drop-set}
 use Rattle.rules.proofs.Sequences.{by_less}
 use Rattle.timeline.specs.RowLine.{AskInsert, InsertedAt}
 
@@ -20,36 +20,69 @@ by_place at count k h before here after =
     before
     (λ most. by_less at k (λ less. after (k - 1) (omega arith) (omega arith) (omega arith)) (λ same. here (omega arith)))
 
--- The part that is turned.
+-- Making room: those from i on stand one place further, and the place i may be written over.
+pub record Shifted {A : Type 0} (old : List A) (count at : ℕ) (new : List A) (i : ℕ) : Type 0 where
+  pub not_before : at ≤ i
+  pub within : i ≤ count
+  pub long : length new ≡ length old
+  pub front : take i new ≡ take i old
+  pub behind : drop (i + 1) new ≡ take (count - i) (drop i old) ++ drop (count + 1) old
 
-set_first : {A : Type 0} (xs ys : List A) (value : A) → length xs ≡ 1 → set (xs ++ ys) 0 value ≡ value ∷ ys
-set_first [] ys value one = absurd (omega arith)
-set_first (x ∷ []) ys value one = refl
-set_first (x ∷ y ∷ xs) ys value one = absurd (omega arith)
-
-module _ {A : Type 0} {old : List A} {count at : ℕ} (asked : AskInsert old count at) (value : A) where
-  abbrev part : List A
-  part = mid_of at (count + 1 - at) old
-
-  part_long : length part ≡ count + 1 - at
-  part_long = length-take-le (count + 1 - at) (drop at old) (simp length-drop (omega arith))
-
-  -- turned by one, its last stands first, and the value is written over it
-  pub inserted :
-      {turned : List A} → turned ≡ drop (length part - 1) part ++ take (length part - 1) part →
-      InsertedAt old count at value (put_mid at (count + 1 - at) old (set turned 0 value))
-  inserted {turned} is =
-      let most : length part - 1 ≡ count - at = omega (arith, part_long) in
-      let last : length (drop (count - at) part) ≡ 1 = simp length-drop (omega (arith, part_long)) in
-      let first : take (count - at) part ≡ take (count - at) (drop at old) = take-take (count - at) (count + 1 - at) (drop at old) (omega arith) in
-      let past : at + (count + 1 - at) ≡ count + 1 = omega arith in
-      let written : set turned 0 value ≡ value ∷ take (count - at) (drop at old) =
-      rw (is, most) (set_first (drop (count - at) part) (take (count - at) part) value last ∙ ap (λ l. value ∷ l) first)
-      in
+module _ {A : Type 0} {old : List A} {count at : ℕ} (asked : AskInsert old count at) where
+  pub shifted_none : Shifted old count at old count
+  shifted_none =
+      let none : count - count ≡ 0 = omega arith in
       record {
-        new_is = rw (written, drop-drop (count + 1 - at) at old, past) refl;
-        long = same_len_mid at (count + 1 - at) old (set turned 0 value) (ap length written ∙ simp length-take (omega (arith, part_long, length-drop at old)));
+        not_before = asked.within;
+        within = omega arith;
+        long = refl;
+        front = refl;
+        behind = rw none refl;
       }
+
+  module _ {new : List A} {i : ℕ} (shifted : Shifted old count at new i) where
+    pub shifted_more : at < i → (value : A) → value ≡ get_or new (i - 1) value → Shifted old count at (set new ((i - 1) + 1) value) (i - 1)
+    shifted_more more value read =
+        let room = asked.room in
+        let within = shifted.within in
+        let long = shifted.long in
+        let next : (i - 1) + 1 ≡ i = omega arith in
+        let one_more : count - (i - 1) ≡ suc (count - i) = omega arith in
+        let same : value ≡ get_or old (i - 1) value =
+        read
+        ∙ sym (get_or-take i new (i - 1) value (omega arith))
+        ∙ ap (λ l. get_or l (i - 1) value) shifted.front
+        ∙ get_or-take i old (i - 1) value (omega arith)
+        in
+        let held : drop (i - 1) old ≡ value ∷ drop i old =
+        drop_more old (i - 1) value (omega arith) ∙ rw (← same, next) refl
+        in
+        rw
+        next
+        (record {
+          not_before = omega arith;
+          within = omega arith;
+          long = length-set new i value ∙ long;
+          front =
+              take-set-le (i - 1) new i value (omega arith)
+              ∙ sym (take-take (i - 1) i new (omega arith))
+              ∙ ap (take (i - 1)) shifted.front
+              ∙ take-take (i - 1) i old (omega arith);
+          behind = rw (next, drop-set new i value (omega arith), shifted.behind, held, one_more) refl;
+        })
+
+    -- the value is written where room was made
+    pub shifted_put : (value : A) → i ≤ at → InsertedAt old count at value (set new at value)
+    shifted_put value done =
+        let room = asked.room in
+        let long = shifted.long in
+        let there : i ≡ at = omega arith in
+        let front : take at new ≡ take at old = rw there at shifted.front in
+        let behind : drop (at + 1) new ≡ take (count - at) (drop at old) ++ drop (count + 1) old = rw there at shifted.behind in
+        record {
+          new_is = set_split new at value (omega arith) ∙ rw (front, ← add-one at, behind) refl;
+          long = length-set new at value ∙ long;
+        }
 
 -- What stands at each index of the column with one value more.
 pub record PutAt (old : List ℕ) (count at value : ℕ) (new : List ℕ) : Type 0 where

@@ -1,4 +1,5 @@
 // Columns, of one value for each span: a value put in or taken out at an index, and a column without those that leave.
+// Values are moved one by one: the library's rotation moves through a room of its own on the stack and needs memmove.
 ghost use Rattle.std.specs.Prelude.{◌≤◌, length};
 ghost use Rattle.timeline.specs.RowLine.{AskInsert, InsertedAt, AskRemoveAt, RemovedAt};
 ghost use Rattle.timeline.specs.TakenOut.{KeptIs};
@@ -11,9 +12,10 @@ pub fn insert_at<T: Copy>(values: &mut [T], count: usize, at: usize, value: T)
     requires { AskInsert values.old count at }
     ensures { InsertedAt values.old count at value values.new }
 {
-    let moved = &mut values[at..=count];
-    moved.rotate_right(1);
-    moved[0] = value;
+    for i in (at..count).rev() {
+        values[i + 1] = values[i];
+    }
+    values[at] = value;
 }
 
 // Takes the value at an index out of the first so many: those after it go one place back, and the last leaves a blank.
@@ -21,7 +23,9 @@ pub fn remove_at<T: Copy>(values: &mut [T], count: usize, at: usize, blank: T)
     requires { AskRemoveAt values.old count at }
     ensures { RemovedAt values.old count at blank values.new }
 {
-    values[at..count].rotate_left(1);
+    for i in at + 1..count {
+        values[i - 1] = values[i];
+    }
     values[count - 1] = blank;
 }
 

@@ -23,9 +23,9 @@ use Rattle.timeline.proofs.ColumnLaws.{begin_blank, end_blank, note_blank}
 use Rattle.timeline.proofs.RowLines.{line_long}
 use Rattle.timeline.proofs.Keeping.{line_keep, line_costs}
 use Rattle.timetable.specs.declared.Timetable.{Timetable}
-use Rattle.timetable.specs.Derived.{last_finish, soonest_end}
+use Rattle.timetable.specs.Derived.{last_finish, soonest_end, timetable_of}
 use Rattle.timetable.specs.Marks.{WholeJobs}
-use Rattle.timetable.specs.Timetables.{timetable_of, TimetableOf, AskTakeOut, TakenOutIs}
+use Rattle.timetable.specs.Timetables.{TimetableOf, AskTakeOut, TakenOutIs}
 use Rattle.timetable.proofs.Ends.{stay, whole_by, notes_kept}
 use Rattle.timetable.proofs.Standing.{count_is, few_held, notes_are, notes_long, no_last, row_there, note_at}
 

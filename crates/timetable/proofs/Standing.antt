@@ -21,9 +21,9 @@ use Rattle.timeline.specs.Notes.{no_note}
 use Rattle.timeline.proofs.ColumnLaws.{column_at, column_long}
 use Rattle.timeline.proofs.RowLines.{line_long, line_from}
 use Rattle.timetable.specs.declared.Timetable.{Timetable}
-use Rattle.timetable.specs.Derived.{last_finish}
+use Rattle.timetable.specs.Derived.{last_finish, timetable_of}
 use Rattle.timetable.specs.Marks.{JobsOf}
-use Rattle.timetable.specs.Timetables.{timetable_of, TimetableOf, Goes}
+use Rattle.timetable.specs.Timetables.{TimetableOf, Goes}
 use Rattle.timetable.proofs.Steps.{refused_left}
 use Rattle.timetable.proofs.Ends.{last_none}
 

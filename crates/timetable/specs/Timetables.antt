@@ -14,23 +14,8 @@ use Rattle.timeline.specs.RowLine.{row_begin, row_end, line_of, column, notes_of
 use Rattle.timeline.specs.TakenOut.{left_of}
 use Rattle.timeline.specs.declared.leaving.Leaving.{Leaving}
 use Rattle.timetable.specs.declared.Timetable.{Timetable}
-use Rattle.timetable.specs.Derived.{last_finish, soonest_end}
+use Rattle.timetable.specs.Derived.{timetable_of}
 use Rattle.timetable.specs.Marks.{JobsOf, PlaceOf}
-
--- The one timetable of a state: all that it keeps is made of the rows, and what is not used is blank.
-abbrev pub timetable_of : State → Timetable
-timetable_of st = record {
-  line = record {
-    begins = column row_begin (line_of st.rows);
-    ends = column row_end (line_of st.rows);
-    count = length st.rows;
-  };
-  jobs = column (λ row. row.job) (line_of st.rows);
-  notes = notes_of (last_finish st.rows) (line_of st.rows);
-  clock = st.calendar.clock;
-  total = st.total;
-  soonest = soonest_end st.rows;
-}
 
 abbrev pub timetable_fresh : Timetable
 timetable_fresh = timetable_of fresh

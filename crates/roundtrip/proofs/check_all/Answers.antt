@@ -6,7 +6,7 @@ use Rattle.roundtrip.proofs.check_all.Goals as goal
 use Rattle.roundtrip.proofs.check_all.Goals.{In-Ok}
 
 reached : (g : _) (c : In-Ok g) → Reached c.loop-rest.rest.now 0 least_job c.in-Ok.read.next
-reached g c = reads_reached default_machines _ _ c.read_job.ensures c.in-Ok.is
+reached g c = reads_reached default_machines _ _ c.read_job.ensures.job c.in-Ok.is
 
 pub split_at-requires : goal.split_at-requires
 split_at-requires g c = (reached g (goal.at.split_at-requires g c).In-Ok).within

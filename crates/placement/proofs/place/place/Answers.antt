@@ -33,7 +33,16 @@ overflow_add-result c = omega (arith, few (goal.at.overflow_add-result c).In-Som
 
 pub returns-in_default-choose : goal.returns-in_default-choose
 returns-in_default-choose c =
-    turning_late c.requires c.loop.invariant c.loop-test.true c.in-Some.t c.in-Some.ensures c.gather.ensures c.choose.ensures c.in_default-choose.is
+    turning_late
+    c.requires
+    c.loop.invariant
+    c.loop-test.true
+    c.in-Some.t
+    c.in-Some.ensures
+    c.gather.ensures
+    c.choose.ensures
+    c.in_default-choose.is
+    c.len-rows.ensures.value
 
 pub append-requires : goal.append-requires
 append-requires c =

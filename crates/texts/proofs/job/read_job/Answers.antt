@@ -2,6 +2,10 @@
 use Rattle.rules.specs.Words.{setup_by_default}
 use Rattle.texts.proofs.job.read_job.Goals as goal
 
-pub returns : goal.returns
+pub returns-clause-job : goal.returns-clause-job
 unfolding setup_by_default
-returns c = c.read_job_over.ensures
+returns-clause-job c = c.read_job_over.ensures.job
+
+pub returns-clause-count : goal.returns-clause-count
+unfolding setup_by_default
+returns-clause-count c = c.read_job_over.ensures.count

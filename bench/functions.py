@@ -20,7 +20,7 @@ MAIN = """script::run_calls script::calls::called script::acts::next_act script:
  timetable::Timetable::withdraw timetable::Timetable::advance timetable::Timetable::take_out placement::place::place
  drcd::choice::choose drcd::Scene::attempt drcd::Scene::try_inputs placement::append::append drcd::order::next_ready
  timeline::line::Timeline::least_free timeline::line::Timeline::least_beside timeline::line::Timeline::insert
- screening::screened texts::forms::read_form lines::line::read_line""".split()
+ screening::screened texts::forms::read_form""".split()
 
 COMPILER = "REGISTER_BENCH_COMPILER"  # the variable that tells this file where the compiler is
 HEAD = re.compile(r'(?m)^(define .*?@(?:"([^"\n]+)"|([\w.]+))\(.*\)) (.*\{)$')
